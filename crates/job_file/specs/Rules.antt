@@ -1,0 +1,34 @@
+-- The rules of document 01, "The job file", that the lists of an accepted file keep.
+use Prim.Native.Nat.{ℕ, _≤_}
+use mathlib.Core.Bool.{Bool, not}
+use mathlib.Core.List.{List, [], _∷_, map}
+use lib.Dec.{T}
+use lib.ListN.{length}
+use Rattle.job_file.specs.Part.{Form, among}
+use Rattle.job_file.specs.GlassLine.{glassForm}
+use Rattle.job_file.specs.PaneLine.{paneForm}
+use Rattle.job_file.specs.declared.Glass.{Glass}
+use Rattle.job_file.specs.declared.Pane.{Pane}
+
+-- A test holds of every entry of a list.
+unfoldable pub Every : {A : Type 0} → (A → Bool) → List A → Type 0
+Every test [] = Unit
+Every test (x ∷ xs) = T (test x) × Every test xs
+
+-- No number stands in a list twice.
+unfoldable pub Distinct : List ℕ → Type 0
+Distinct [] = Unit
+Distinct (n ∷ ns) = T (not (among n ns)) × Distinct ns
+
+-- What a part's lines keep: no more of them than allowed, each number among its allowed values, distinct ids, and no
+-- four-edge pane with its longer side over 3 times the shorter.
+pub record PartRules {A : Type 0} (form : Form A) (xs : List A) : Type 0 where
+  pub at-most : length xs ≤ form .most
+  pub allowed : Every (form .allowed) xs
+  pub distinct : Distinct (map (form .id) xs)
+  pub in-proportion : Every (λ x. not (form .tooLong x)) xs
+
+-- What a job's lists keep.
+pub record Rules (glasses : List Glass) (panes : List Pane) : Type 0 where
+  pub of-glasses : PartRules glassForm glasses
+  pub of-panes : PartRules paneForm panes

@@ -1,0 +1,86 @@
+// The whole file: specs/File.antt.
+use crate::Cause;
+use crate::Checked;
+use crate::Reading;
+use crate::glasses::NO_GLASS;
+use crate::glasses::read_glasses;
+use crate::panes::NO_PANE;
+use crate::panes::read_panes;
+use crate::part::PartEnd;
+use crate::trailer::Offsets;
+use crate::trailer::read_trailer;
+ghost use mathlib.Core.Path.{_≡_};
+ghost use Prim.Native.Nat.{_≤_};
+ghost use lib.ListN.{length};
+ghost use Rattle.job_file.specs.File.{outcomeOf, partsOutcome, refused};
+ghost use Rattle.job_file.specs.Answer.{numberOf, Reads};
+
+// A file's glasses and panes, or the first cause against it.
+pub(crate) fn read_file(file: &[u8]) -> Reading
+    ensures { λ r. ⌜ Reads (outcomeOf (now (file .entry))) r ⌝ }
+{
+    let length = file.len();
+    if length < 14 {
+        return refusal(Cause::FileLength, 0);
+    }
+    if 65535 < length {
+        return refusal(Cause::FileLength, 0);
+    }
+    let end = length - 14;
+    match read_trailer(&file[end..]) {
+        Offsets::NoOffsets => refusal(Cause::NoTrailer, end),
+        Offsets::At(glass, pane) => {
+            if pane < glass {
+                return refusal(Cause::PartOffsets, end);
+            }
+            if end < pane {
+                return refusal(Cause::PartOffsets, end);
+            }
+            read_parts(file, glass, pane, end)
+        }
+    }
+}
+
+// The glass part from `glass` to `pane`, then the pane part from `pane` to `end`.
+fn read_parts(file: &[u8], glass: usize, pane: usize, end: usize) -> Reading
+    requires { ⌜ (glass ≤ pane) × (pane ≤ end) × (end ≤ length (now file)) × (end ≤ 65535) ⌝ }
+    ensures { λ r. ⌜ Reads (partsOutcome (now (file .entry)) glass pane end) r ⌝ }
+{
+    let first = read_glasses(&file[glass..pane], glass);
+    let first_end = first.end;
+    match first_end {
+        PartEnd::Stopped(cause, offset) => refusal(cause, offset),
+        PartEnd::Whole(glass_count) => {
+            let second = read_panes(&file[pane..end], pane);
+            let second_end = second.end;
+            match second_end {
+                PartEnd::Stopped(cause, offset) => refusal(cause, offset),
+                PartEnd::Whole(pane_count) => {
+                    let glasses = first.glasses;
+                    let panes = second.panes;
+                    Reading {
+                        checked: Checked::Accepted {
+                            glasses: glass_count,
+                            panes: pane_count,
+                        },
+                        glasses,
+                        panes,
+                    }
+                }
+            }
+        }
+    }
+}
+
+// What is read of a refused file: the cause and its offset.
+fn refusal(cause: Cause, offset: usize) -> Reading
+    ensures { λ r. ⌜ Reads (refused (numberOf cause) offset) r ⌝ }
+{
+    let glasses = [NO_GLASS; 64];
+    let panes = [NO_PANE; 256];
+    Reading {
+        checked: Checked::Refused { cause, offset },
+        glasses,
+        panes,
+    }
+}

@@ -1,0 +1,63 @@
+// The trailer, the last 14 bytes of a file: specs/File.antt.
+use crate::number::Number;
+use crate::number::byte_at;
+use crate::number::read_digits;
+ghost use mathlib.Core.Path.{_≡_};
+ghost use lib.ListN.{drop};
+ghost use Rattle.job_file.specs.File.{offset, trailer, trailerRest};
+ghost use Rattle.job_file.specs.Steps.{NumberRead, TrailerRead};
+
+// Where the glass part and the pane part begin, as a trailer says.
+pub enum Offsets {
+    At(usize, usize),
+    NoOffsets,
+}
+
+// The offsets that the last 14 bytes of a file give.
+pub(crate) fn read_trailer(s: &[u8]) -> Offsets
+    ensures { λ r. ⌜ TrailerRead (trailer (now (s .entry))) r ⌝ }
+{
+    if byte_at(s, 0) != b'T' {
+        return Offsets::NoOffsets;
+    }
+    match read_offset(s, 1) {
+        Number::Missing => Offsets::NoOffsets,
+        Number::Value(glass, next) => read_rest(s, next, glass as usize),
+    }
+}
+
+// The rest of a trailer, from behind its first number.
+fn read_rest(s: &[u8], at: usize, glass: usize) -> Offsets
+    ensures { λ r. ⌜ TrailerRead (trailerRest glass (drop at (now (s .entry)))) r ⌝ }
+{
+    match read_offset(s, at) {
+        Number::Missing => Offsets::NoOffsets,
+        Number::Value(pane, end) => {
+            if byte_at(s, end) == b'\n' {
+                Offsets::At(glass, pane as usize)
+            } else {
+                Offsets::NoOffsets
+            }
+        }
+    }
+}
+
+// A space and five digits.
+fn read_offset(s: &[u8], at: usize) -> Number
+    ensures { λ r. ⌜ NumberRead (now (s .entry)) (offset (drop at (now (s .entry)))) r ⌝ }
+{
+    if byte_at(s, at) != b' ' {
+        return Number::Missing;
+    }
+    let from = at + 1;
+    match read_digits(s, from, 0, 5) {
+        Number::Missing => Number::Missing,
+        Number::Value(value, end) => {
+            if end == from + 5 {
+                Number::Value(value, end)
+            } else {
+                Number::Missing
+            }
+        }
+    }
+}
