@@ -6,3 +6,4 @@ pub mod Fields
 pub mod Members
 pub mod Judging
 pub mod Trailers
+pub mod Parts

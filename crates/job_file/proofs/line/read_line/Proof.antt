@@ -1,95 +1,77 @@
+-- `line::read_line` meets its contract. The loop's invariant is `Scanned`: the rest of the line is read from here on, behind
+-- the numbers that the array already has.
+use borrow.Author.Needs.{needs}
+use native.Mathlib.Omega.{arith}
+use Prim.Native.Nat.{_-_}
+use mathlib.Core.Path.{refl}
+use lib.ListN.{drop}
+use denote.Ref.{now}
+use Rattle.job_file.specs.Line.{line}
+use Rattle.job_file.proofs.Numbers.{byte-within}
+use Rattle.job_file.proofs.Scan.{Scanned, line-other, scan-begin, scan-more, scan-gap, scan-missing, scan-end, scan-open}
 use Rattle.job_file.proofs.line.read_line.Statement.{statement}
 use Rattle.job_file.proofs.line.read_line.Tie as tie
-use Rattle.job_file.proofs.line.read_line.Reads as reads
-use Rattle.job_file.proofs.line.read_line.Lts as lts
-use Rattle.job_file.proofs.number.byte_at.Reads as byte-at-reads
-use Rattle.job_file.proofs.number.read_number.Reads as read-number-reads
 
 abbrev Inv-loop : tie.InvT-loop
-Inv-loop s start letter count numbers₀ at₀ n₀ numbers at n = ?
+Inv-loop s start letter count numbers₀ at₀ n₀ numbers at n = Scanned s (line letter count (drop start s)) count numbers at n
 
 abbrev μ-loop : tie.MeasureT-loop
-μ-loop s start letter count numbers₀ at₀ n₀ numbers at n = ?
+μ-loop s start letter count numbers₀ at₀ n₀ numbers at n = count - n
 
--- src/line.rt:28:8
-byte-at-requires : tie.Need-byte-at-requires Inv-loop μ-loop
-byte-at-requires c κs = ?
+other : tie.Need-returns Inv-loop μ-loop
+other c =
+    let f = c .before in
+    let a = f .before .before .args in
+    line-other (now (a .s)) (a .start) (f .byte-at .result) (f .byte-at .ensures) (a .letter) (a .count) (c .if1 .taken)
 
--- src/line.rt:29:9
-returns : tie.Need-returns Inv-loop μ-loop
-returns c = ?
-
--- src/line.rt:34:18
-add-at : tie.Need-add-at Inv-loop μ-loop
-add-at c = ?
-
--- src/line.rt:36:5
 loop-holds : tie.Need-loop-holds Inv-loop μ-loop
-loop-holds c = ?
+loop-holds c =
+    let f = c .before in
+    let p = f .before .before .pre in
+    let a = f .before .before .args in
+    scan-begin (now (a .s)) (a .start) (f .byte-at .result) (f .byte-at .ensures) (a .letter) (a .count) _ (c .if1 .left) (p .0) (p .1) refl
 
--- src/line.rt:37:12
-byte-at-requires-2 : tie.Need-byte-at-requires-2 Inv-loop μ-loop
-byte-at-requires-2 c κs = ?
+gap : tie.Need-returns-2 Inv-loop μ-loop
+gap c =
+    let f = c .before in
+    let l = f .before .before .loop in
+    scan-gap _ _ _ _ _ _ (l .inv) (f .byte-at2 .result) (f .byte-at2 .ensures) (omega arith) (c .if2 .taken)
 
--- src/line.rt:38:13
-returns-2 : tie.Need-returns-2 Inv-loop μ-loop
-returns-2 c = ?
-
--- src/line.rt:43:30
 add-read-number : tie.Need-add-read-number Inv-loop μ-loop
-add-read-number c = ?
+add-read-number c =
+    let f = c .before in
+    let l = f .before .before in
+    let s = now (l .before .before .before .before .args .s) in
+    omega (arith, byte-within s (l .loop .at) (f .byte-at2 .result) (f .byte-at2 .ensures) (omega arith))
 
--- src/line.rt:43:15
-read-number-requires : tie.Need-read-number-requires Inv-loop μ-loop
-read-number-requires c κs = ?
+missing : tie.Need-returns-3 Inv-loop μ-loop
+missing c =
+    let r = c .before .before in
+    let f = r .before .before in
+    let l = f .before .before .loop in
+    scan-missing _ _ _ _ _ _ (l .inv) (f .byte-at2 .result) (f .byte-at2 .ensures) (omega arith) (r .before .if2 .left)
+    (rw (c .enum-told .given .1) at (r .read-number .ensures))
 
--- src/line.rt:46:26
-enum-told : tie.Need-enum-told Inv-loop μ-loop
-enum-told c = ?
-
--- src/line.rt:45:17
-returns-3 : tie.Need-returns-3 Inv-loop μ-loop
-returns-3 c = ?
-
--- src/line.rt:50:27
-enum-known-value : tie.Need-enum-known-value Inv-loop μ-loop
-enum-known-value c = ?
-
--- src/line.rt:51:17
-mul-numbers : tie.Need-mul-numbers Inv-loop μ-loop
-mul-numbers c = ?
-
--- src/line.rt:51:17
-array-write-numbers : tie.Need-array-write-numbers Inv-loop μ-loop
-array-write-numbers c = ?
-
--- src/line.rt:53:17
-add-n : tie.Need-add-n Inv-loop μ-loop
-add-n c = ?
-
--- src/line.rt:36:5
-loop-less : tie.Need-loop-less Inv-loop μ-loop
-loop-less c = ?
-
--- src/line.rt:36:5
 loop-again : tie.Need-loop-again Inv-loop μ-loop
-loop-again c = ?
+loop-again c =
+    let v = c .before .value .given in
+    let r = c .before .before .before in
+    let f = r .before .before in
+    let l = f .before .before .loop in
+    let read = rw (v .1) at (r .read-number .ensures) in
+    scan-more _ _ _ _ _ _ (l .inv) (f .byte-at2 .result) (f .byte-at2 .ensures) (v .0 .0) (v .0 .1 .0) (omega arith) (r .before .if2 .left) (read .0) (read .1)
 
--- src/line.rt:57:8
-byte-at-requires-3 : tie.Need-byte-at-requires-3 Inv-loop μ-loop
-byte-at-requires-3 c κs = ?
+open-ended : tie.Need-returns-4 Inv-loop μ-loop
+open-ended c =
+    let f = c .before in
+    let l = f .before .before .loop in
+    scan-open _ _ _ _ _ _ (l .inv) (f .byte-at3 .result) (f .byte-at3 .ensures) (omega arith) (c .if3 .taken)
 
--- src/line.rt:58:9
-returns-4 : tie.Need-returns-4 Inv-loop μ-loop
-returns-4 c = ?
-
--- src/line.rt:64:28
-add-t27 : tie.Need-add-t27 Inv-loop μ-loop
-add-t27 c = ?
-
--- src/line.rt:23:1
-returns-5 : tie.Need-returns-5 Inv-loop μ-loop
-returns-5 c = ?
+whole : tie.Need-returns-5 Inv-loop μ-loop
+whole c =
+    let f = c .before in
+    let l = f .before .before .loop in
+    scan-end _ _ _ _ _ _ (l .inv) (f .byte-at3 .result) (f .byte-at3 .ensures) (omega arith) (c .if3 .left)
 
 pub read-line-spec : {M : Type 1} → statement M
 read-line-spec =
@@ -97,23 +79,23 @@ read-line-spec =
     (tie.spec
     Inv-loop
     μ-loop
-    byte-at-requires
-    returns
-    add-at
+    (λ c κs. search needs)
+    other
+    (λ c. omega (arith, loop-holds c .inside))
     loop-holds
-    byte-at-requires-2
-    returns-2
+    (λ c κs. search needs)
+    gap
     add-read-number
-    read-number-requires
-    enum-told
-    returns-3
-    enum-known-value
-    mul-numbers
-    array-write-numbers
-    add-n
-    loop-less
+    (λ c κs. search needs)
+    (λ c. search needs)
+    missing
+    (λ c. search needs)
+    (λ c. omega (arith, c .before .before .before .before .before .before .before .loop .inv .most))
+    (λ c. omega (arith, c .before .before .before .before .before .before .before .loop .inv .most))
+    (λ c. omega arith)
+    (λ c. omega arith)
     loop-again
-    byte-at-requires-3
-    returns-4
-    add-t27
-    returns-5)
+    (λ c κs. search needs)
+    open-ended
+    (λ c. omega (arith, whole c .1))
+    whole)
