@@ -7,3 +7,4 @@ pub mod Members
 pub mod Judging
 pub mod Trailers
 pub mod Parts
+pub mod Files

@@ -11,6 +11,7 @@ use native.Mathlib.Numerals.{add-one}
 use native.Mathlib.Omega.{arith}
 use lib.ListN.{length, take, drop, set, replicate, length-drop, length-set, length-replicate}
 use lib.Seq.{take-suc-set, drop-set-lt, drop-drop}
+use Rattle.job_file.specs.Steps.{PartWhole}
 use Rattle.job_file.specs.Part.{Form, taken, faulty, judged, Lines, whole, stopped, lines, partLines}
 
 module _ {A : Type 0} (form : Form A) (end : ℕ) where
@@ -72,11 +73,15 @@ module _ {A : Type 0} (form : Form A) (blank : A) (part : List ℕ) where
     one-left : n < form .most → form .most - n ≡ suc (form .most - (n + 1))
     one-left more = omega arith
 
-    pub progress-end : length part ≤ at → (partLines form (offset + length part) part ≡ whole (take n xs)) × (n ≤ form .most) × (drop n xs ≡ replicate (form .most - n) blank)
+    pub progress-end : length part ≤ at → PartWhole (form .most) blank (partLines form (offset + length part) part) xs n
     progress-end all =
-        (sym (progress .rest) ∙ lines-end form (offset + length part) (form .most - n) (take n xs) (drop at part) (simp length-drop (omega arith)),
-        progress .few,
-        progress .blanks)
+        let none : length (drop at part) ≤ 0 = simp length-drop (omega arith) in
+        record {
+          entries = sym (progress .rest) ∙ lines-end form (offset + length part) (form .most - n) (take n xs) (drop at part) none;
+          few = progress .few;
+          room = progress .room;
+          blanks = progress .blanks;
+        }
 
     pub progress-many : at < length part → n ≡ form .most → partLines form (offset + length part) part ≡ stopped 8 (offset + at)
     progress-many more full =

@@ -46,7 +46,7 @@ module _ (s : List ℕ) (at b : ℕ) (is : b ≡ next (drop at s)) where
       }
 
 module _ (s : List ℕ) (asked : Found (List ℕ)) (count : ℕ) (values : List ℕ) (at n : ℕ) (scanned : Scanned s asked count values at n)
-  (b : ℕ) (is : b ≡ next (drop at s)) where
+    (b : ℕ) (is : b ≡ next (drop at s)) where
   one-left : n < count → count - n ≡ suc (count - (n + 1))
   one-left more = omega arith
 

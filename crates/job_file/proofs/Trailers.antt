@@ -32,14 +32,14 @@ module _ (s : List ℕ) (at b : ℕ) (is : b ≡ next (drop at s)) where
     unfolding offset fiveDigits
     offset-whole five =
         let five-bytes : length (drop to s) + 5 ≡ length (drop (at + 1) s) =
-            simp length-drop (omega (arith, start)) in
+        simp length-drop (omega (arith, start)) in
         rw (← is, eq-eqb b 32 same, after-drop) (rw (read, fiveDigits) (rw (eq-eqb _ _ five-bytes)))
 
     pub offset-short : (to ≡ at + 1 + 5 → ⊥) → offset (drop at s) ≡ nothing
     unfolding offset fiveDigits
     offset-short fewer =
         let other-length : length (drop to s) + 5 ≡ length (drop (at + 1) s) → ⊥ =
-            λ e. fewer (omega (arith, start, simp length-drop at e)) in
+        λ e. fewer (omega (arith, start, simp length-drop at e)) in
         rw (← is, eq-eqb b 32 same, after-drop) (rw (read, fiveDigits) (rw (ne-eqb _ _ other-length)))
 
 module _ (glass : ℕ) (bytes : List ℕ) where

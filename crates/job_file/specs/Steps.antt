@@ -40,9 +40,15 @@ abbrev pub PaneRead : List ℕ → Judged Pane → PaneLine → Type 0
 PaneRead bytes d (TakenPane pane at) = (d ≡ taken pane (drop at bytes)) × (at ≤ length bytes)
 PaneRead bytes d (FaultyPane cause) = d ≡ faulty (numberOf cause)
 
--- A part's entries stand at the front of an array, with `blank` in the others.
+-- A part's n entries stand at the front of an array of this size, with `blank` in the others.
+pub record PartWhole {A : Type 0} (size : ℕ) (blank : A) (d : Lines A) (xs : List A) (n : ℕ) : Type 0 where
+  pub entries : d ≡ whole (take n xs)
+  pub few : n ≤ size
+  pub room : length xs ≡ size
+  pub blanks : drop n xs ≡ replicate (size - n) blank
+
 abbrev pub PartRead : {A : Type 0} → ℕ → A → Lines A → List A → PartEnd → Type 0
-PartRead size blank d xs (Whole n) = (d ≡ whole (take n xs)) × (n ≤ size) × (drop n xs ≡ replicate (size - n) blank)
+PartRead size blank d xs (Whole n) = PartWhole size blank d xs n
 PartRead size blank d xs (Stopped cause offset) = d ≡ stopped (numberOf cause) offset
 
 abbrev pub TrailerRead : Trailer → Offsets → Type 0

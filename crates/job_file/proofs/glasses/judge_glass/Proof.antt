@@ -13,11 +13,13 @@ repeated c bytes within =
     (sym (c .before .is-among .ensures) ∙ c .if2 .taken)
 
 taken : tie.Need-returns-2
-taken c bytes within =
-    (entry-taken glassForm _ _ _
-    (sym (c .before .before .before .is-allowed .ensures) ∙ c .before .before .if1 .taken)
-    (sym (c .before .is-among .ensures) ∙ c .if2 .left)
-    refl, within)
+taken c bytes within = (
+  entry-taken glassForm _ _ _
+      (sym (c .before .before .before .is-allowed .ensures) ∙ c .before .before .if1 .taken)
+      (sym (c .before .is-among .ensures) ∙ c .if2 .left)
+      refl,
+  within,
+)
 
 value : tie.Need-returns-3
 value c bytes within = entry-value glassForm _ _ _ (sym (c .before .is-allowed .ensures) ∙ c .if1 .left)

@@ -20,11 +20,13 @@ long c bytes within =
     (sym (c .before .is-too-long .ensures) ∙ c .if3 .taken)
 
 taken : tie.Need-returns-3
-taken c bytes within =
-    (entry-taken paneForm _ _ _
-    (sym (c .before .before .before .before .before .is-allowed .ensures) ∙ c .before .before .before .before .if1 .taken)
-    (sym (c .before .before .before .is-among .ensures) ∙ c .before .before .if2 .left)
-    (sym (c .before .is-too-long .ensures) ∙ c .if3 .left), within)
+taken c bytes within = (
+  entry-taken paneForm _ _ _
+      (sym (c .before .before .before .before .before .is-allowed .ensures) ∙ c .before .before .before .before .if1 .taken)
+      (sym (c .before .before .before .is-among .ensures) ∙ c .before .before .if2 .left)
+      (sym (c .before .is-too-long .ensures) ∙ c .if3 .left),
+  within,
+)
 
 value : tie.Need-returns-4
 value c bytes within = entry-value paneForm _ _ _ (sym (c .before .is-allowed .ensures) ∙ c .if1 .left)

@@ -35,9 +35,11 @@ whole c =
     let e = r .before in
     let a = e .before .before .before .args in
     let v = k .value .given in
-    let read = rw (v .1) at (r .read-digits .ensures) in
-    (offset-whole (now (a .s)) (a .at) (e .before .byte-at .result) (e .before .byte-at .ensures)
-    (v .0 .0) (v .0 .1 .0) (e .if1 .left) (read .0) (read .1) (c .if2 .taken), read .1)
+    let read = rw (v .1) at (r .read-digits .ensures) in (
+      offset-whole (now (a .s)) (a .at) (e .before .byte-at .result) (e .before .byte-at .ensures)
+          (v .0 .0) (v .0 .1 .0) (e .if1 .left) (read .0) (read .1) (c .if2 .taken),
+      read .1,
+    )
 
 short : tie.Need-returns-4
 short c =

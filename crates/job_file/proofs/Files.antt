@@ -1,0 +1,91 @@
+-- The whole file, by the tests that lead to each outcome.
+--     parts-glass, parts-pane, parts-whole          the outcome of the two parts
+--     part-end, tail-part                           a part's length, and the last bytes of a file
+--     file-short, file-over                         cause 1
+--     file-trailer, file-order, file-beyond         causes 2 and 3
+--     file-parts                                    none of them
+--     reads-whole                                   two parts that were read whole
+use Prim.Native.Nat.{ℕ, _+_, _-_, _≤_, _<_}
+use mathlib.Core.Path.{_≡_, refl, ap, ap₂, sym, _∙_}
+use mathlib.Core.List.{List, _++_}
+use native.Mathlib.Omega.{arith}
+use lib.ListN.{length, take, drop, replicate, length-take, length-drop, take-append-drop}
+use lib.Seq.{take-all, length-take-le}
+use borrow.Author.Tests.{lt-ltb, le-ltb, le-leb, lt-leb}
+use Rattle.job_file.specs.Part.{Lines, whole, stopped, partLines}
+use Rattle.job_file.specs.GlassLine.{glassForm}
+use Rattle.job_file.specs.PaneLine.{paneForm}
+use Rattle.job_file.specs.File.{part, trailer, offsets, noTrailer, Outcome, accepted, refused, partsOutcome, outcomeOf}
+use Rattle.job_file.specs.Answer.{Answer, accepts, blankGlass, blankPane, padded, Reads}
+use Rattle.job_file.specs.Steps.{PartWhole}
+use Rattle.job_file.specs.declared.Glass.{Glass}
+use Rattle.job_file.specs.declared.Pane.{Pane}
+use Rattle.job_file.specs.declared.Checked.the-variants.{Accepted}
+
+module _ (file : List ℕ) (glass pane end : ℕ) where
+  pub parts-glass : (cause at : ℕ) → partLines glassForm pane (part file glass pane) ≡ stopped cause at → partsOutcome file glass pane end ≡ refused cause at
+  unfolding partsOutcome
+  parts-glass cause at stop = rw (stop, partsOutcome)
+
+  module _ (gs : List Glass) (first : partLines glassForm pane (part file glass pane) ≡ whole gs) where
+    pub parts-pane : (cause at : ℕ) → partLines paneForm end (part file pane end) ≡ stopped cause at → partsOutcome file glass pane end ≡ refused cause at
+    unfolding partsOutcome
+    parts-pane cause at stop = rw (first, partsOutcome) (rw stop)
+
+    pub parts-whole : (ps : List Pane) → partLines paneForm end (part file pane end) ≡ whole ps → partsOutcome file glass pane end ≡ accepted gs ps
+    unfolding partsOutcome
+    parts-whole ps second = rw (first, partsOutcome) (rw second)
+
+pub part-end : (file : List ℕ) (from to : ℕ) → from ≤ to → to ≤ length file → from + length (part file from to) ≡ to
+part-end file from to order inside = simp (length-take, length-drop) (omega arith)
+
+pub tail-part : (file : List ℕ) (from : ℕ) → take (length file - from) (drop from file) ≡ drop from file
+tail-part file from = take-all (length file - from) (drop from file) (simp length-drop (omega arith))
+
+module _ (file : List ℕ) where
+  pub file-short : length file < 14 → outcomeOf file ≡ refused 1 0
+  unfolding outcomeOf
+  file-short short = rw (lt-ltb (length file) 14 short)
+
+  module _ (long : 14 ≤ length file) where
+    pub file-over : 65535 < length file → outcomeOf file ≡ refused 1 0
+    unfolding outcomeOf
+    file-over over = rw (le-ltb (length file) 14 long, lt-ltb 65535 (length file) over)
+
+    module _ (fits : length file ≤ 65535) where
+      pub file-trailer : trailer (drop (length file - 14) file) ≡ noTrailer → outcomeOf file ≡ refused 2 (length file - 14)
+      unfolding outcomeOf
+      file-trailer none = rw (le-ltb (length file) 14 long, le-ltb 65535 (length file) fits, none)
+
+      module _ (glass pane : ℕ) (read : trailer (drop (length file - 14) file) ≡ offsets glass pane) where
+        pub file-order : pane < glass → outcomeOf file ≡ refused 3 (length file - 14)
+        unfolding outcomeOf
+        file-order turned = rw (le-ltb (length file) 14 long, le-ltb 65535 (length file) fits, read) (rw (lt-leb glass pane turned))
+
+        pub file-beyond : glass ≤ pane → length file - 14 < pane → outcomeOf file ≡ refused 3 (length file - 14)
+        unfolding outcomeOf
+        file-beyond order beyond =
+            rw (le-ltb (length file) 14 long, le-ltb 65535 (length file) fits, read)
+            (rw (le-leb glass pane order, lt-leb pane (length file - 14) beyond))
+
+        pub file-parts : glass ≤ pane → pane ≤ length file - 14 → outcomeOf file ≡ partsOutcome file glass pane (length file - 14)
+        unfolding outcomeOf
+        file-parts order inside =
+            rw (le-ltb (length file) 14 long, le-ltb 65535 (length file) fits, read)
+            (rw (le-leb glass pane order, le-leb pane (length file - 14) inside))
+
+module _ {A : Type 0} (size : ℕ) (blank : A) (d : Lines A) (xs : List A) (n : ℕ) (w : PartWhole size blank d xs n) where
+  count-whole : n ≡ length (take n xs)
+  count-whole = sym (length-take-le n xs (omega (arith, w .few, w .room)))
+
+  padded-whole : xs ≡ padded size blank (take n xs)
+  padded-whole = rw (← count-whole, ← w .blanks) (sym (take-append-drop n xs))
+
+pub reads-whole : (dg : Lines Glass) (dp : Lines Pane) (gs : List Glass) (ps : List Pane) (n m : ℕ)
+    → PartWhole 64 blankGlass dg gs n → PartWhole 256 blankPane dp ps m
+    → Reads (accepted (take n gs) (take m ps)) (record { checked = Accepted n m; glasses = gs; panes = ps })
+reads-whole dg dp gs ps n m g p = record {
+  answer = ap₂ accepts (count-whole 64 blankGlass dg gs n g) (count-whole 256 blankPane dp ps m p);
+  glasses = padded-whole 64 blankGlass dg gs n g;
+  panes = padded-whole 256 blankPane dp ps m p;
+}
