@@ -8,3 +8,6 @@ pub mod Judging
 pub mod Trailers
 pub mod Parts
 pub mod Files
+pub mod Lists
+pub mod Kept
+pub mod Accepted

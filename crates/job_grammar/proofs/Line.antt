@@ -1,0 +1,140 @@
+-- A line that is written is read back, and a line that is read was written: number after number, each behind a space, which
+-- is no digit and so ends the number before it.
+--     next-is         a byte that comes next is the first
+--     Small           numbers up to 99999
+--     written-line    what is written for numbers up to 99999 is read as those numbers
+--     line-read       what is read as numbers is what is written for them, and they are as many as asked for
+use Prim.Native.Nat.{ℕ, zero, suc, _≤_, _<_}
+use mathlib.Core.Path.{_≡_, refl, sym, _∙_, ap}
+use mathlib.Core.Bool.{Bool, true, false}
+use mathlib.Core.List.{List, [], _∷_, _++_, append-assoc, append-nil}
+use native.Mathlib.Omega.{arith}
+use lib.Dec.{leb, eqb, leb→le}
+use lib.ListN.{length}
+use borrow.Author.Tests.{eqb-true, eq-eqb}
+use Rattle.job_file.specs.Bytes.{if_then_else_, newline, space, next, after, Found, found, nothing}
+use Rattle.job_file.specs.Number.{isDigit, number}
+use Rattle.job_file.specs.Line.{numbers, ended, line}
+use Rattle.job_file.specs.Rules.{Every}
+use Rattle.job_file.proofs.Kept.{clash}
+use Rattle.job_grammar.specs.Written.{writtenNumber, writtenNumbers, writtenLine}
+use Rattle.job_grammar.proofs.Numbers.{written-number, number-read}
+
+abbrev pub Small : List ℕ → Type 0
+Small ns = Every (λ n. leb n 99999) ns
+
+-- A byte other than 0 that comes next is the first of the bytes.
+pub next-is : (b : ℕ) (bytes : List ℕ) → 0 < b → eqb (next bytes) b ≡ true → bytes ≡ b ∷ after bytes
+next-is b [] h e = absurd (omega (arith, eqb-true 0 b e))
+next-is b (c ∷ bytes) h e = rw (eqb-true c b e)
+
+-- No digit follows a number of a line.
+no-digit : (ns rest : List ℕ) → isDigit (next (writtenNumbers ns ++ (newline ∷ rest))) ≡ false
+unfolding writtenNumbers
+no-digit [] rest = refl
+no-digit (n ∷ ns) rest = refl
+
+written-numbers :
+    (before ns rest : List ℕ) →
+    Small ns →
+    numbers (length ns) before (writtenNumbers ns ++ (newline ∷ rest)) ≡ found (before ++ ns) (newline ∷ rest)
+unfolding writtenNumbers numbers Every
+written-numbers before [] rest h = rw append-nil
+written-numbers before (n ∷ ns) rest h =
+    let small : n ≤ 99999 = leb→le n 99999 (h .0) in
+    let tail = writtenNumbers ns ++ (newline ∷ rest) in
+    rw (append-assoc (writtenNumber n) (writtenNumbers ns) (newline ∷ rest), written-number n tail small (no-digit ns rest))
+    (written-numbers (before ++ (n ∷ [])) ns rest (h .1) ∙ rw append-assoc)
+
+pub written-line :
+    (letter : ℕ) (ns rest : List ℕ) → Small ns → line letter (length ns) (writtenLine letter ns ++ rest) ≡ found ns rest
+unfolding line ended writtenLine
+written-line letter ns rest h =
+    rw (eq-eqb letter letter refl, append-assoc (writtenNumbers ns) (newline ∷ []) rest, written-numbers [] ns rest h)
+
+-- The numbers read behind those before them.
+record NumbersRead (left : ℕ) (before bytes ns rest : List ℕ) : Type 0 where
+  more : List ℕ
+  behind : before ++ more ≡ ns
+  count : length more ≡ left
+  were : bytes ≡ writtenNumbers more ++ rest
+
+numbers-read :
+    (left : ℕ) (before bytes ns rest : List ℕ) →
+    numbers left before bytes ≡ found ns rest →
+    NumbersRead left before bytes ns rest
+unfolding numbers writtenNumbers
+numbers-read zero before bytes ns rest e = record { more = []; behind = append-nil before ∙ cc; count = refl; were = cc }
+numbers-read (suc left) before bytes ns rest e =
+    go (λ n tail. numbers-read left (before ++ (n ∷ [])) tail ns rest)
+    (eqb (next bytes) space)
+    (number (after bytes))
+    refl
+    refl
+    e
+  where
+    go :
+        ((n : ℕ) (tail : List ℕ) → numbers left (before ++ (n ∷ [])) tail ≡ found ns rest →
+        NumbersRead left (before ++ (n ∷ [])) tail ns rest) →
+        (t : Bool) (f : Found ℕ) → eqb (next bytes) space ≡ t → number (after bytes) ≡ f →
+        (if t
+        then elim f [
+          | found n tail ↦ numbers left (before ++ (n ∷ [])) tail
+          | nothing ↦ nothing
+        ]
+        else nothing) ≡ found ns rest →
+        NumbersRead (suc left) before bytes ns rest
+    go read true (found n tail) p q f =
+        let r = read n tail f in
+        record {
+          more = n ∷ r .more;
+          behind = sym (append-assoc before (n ∷ []) (r .more)) ∙ r .behind;
+          count = ap suc (r .count);
+          were =
+              next-is space bytes (omega arith) p
+              ∙ ap (λ l. space ∷ l)
+              (number-read (after bytes) n tail q
+              ∙ ap (λ l. writtenNumber n ++ l) (r .were)
+              ∙ sym (append-assoc (writtenNumber n) (writtenNumbers (r .more)) rest));
+        }
+    go read true nothing p q f = clash (cc)
+    go read false g p q f = clash (cc)
+
+ended-read :
+    (count : ℕ) (bytes ns rest : List ℕ) → ended (numbers count [] bytes) ≡ found ns rest →
+    (bytes ≡ writtenNumbers ns ++ (newline ∷ rest)) × (length ns ≡ count)
+unfolding ended
+ended-read count bytes ns rest e = go (numbers count [] bytes) refl e
+  where
+    go :
+        (f : Found (List ℕ)) → numbers count [] bytes ≡ f → ended f ≡ found ns rest →
+        (bytes ≡ writtenNumbers ns ++ (newline ∷ rest)) × (length ns ≡ count)
+    go nothing q f = clash (cc)
+    go (found ms tail) q f = step (eqb (next tail) newline) refl f
+      where
+        step :
+            (t : Bool) → eqb (next tail) newline ≡ t → (if t then found ms (after tail) else nothing) ≡ found ns rest →
+            (bytes ≡ writtenNumbers ns ++ (newline ∷ rest)) × (length ns ≡ count)
+        step true p g =
+            let r = numbers-read count [] bytes ms tail q in
+            let same : r .more ≡ ns = r .behind ∙ cc in
+            let tail-is : tail ≡ newline ∷ rest = next-is newline tail (omega arith) p ∙ cc in
+            (r .were ∙ rw (same, tail-is), rw same at (r .count))
+        step false p g = clash (cc)
+
+pub line-read :
+    (letter count : ℕ) (bytes ns rest : List ℕ) →
+    0 < letter →
+    line letter count bytes ≡ found ns rest →
+    (bytes ≡ writtenLine letter ns ++ rest) × (length ns ≡ count)
+unfolding line writtenLine
+line-read letter count bytes ns rest h = go (eqb (next bytes) letter) refl
+  where
+    go :
+        (t : Bool) → eqb (next bytes) letter ≡ t →
+        (if t then ended (numbers count [] (after bytes)) else nothing) ≡ found ns rest →
+        (bytes ≡ writtenLine letter ns ++ rest) × (length ns ≡ count)
+    go true p f =
+        let r = ended-read count (after bytes) ns rest f in
+        (next-is letter bytes h p ∙ rw (r .0, append-assoc), r .1)
+    go false p f = clash (cc)

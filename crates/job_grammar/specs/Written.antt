@@ -1,0 +1,67 @@
+-- The grammar of the job file: the bytes that are written for numbers, for a glass or a pane, for a part and for a file.
+-- Document 01, "The job file", from the writer's side.
+use Prim.Native.Nat.{ℕ, zero, suc, _+_, _/_, _%_}
+use mathlib.Core.List.{List, [], _∷_, _++_}
+use lib.Dec.{ltb}
+use lib.ListN.{length}
+use Rattle.job_file.specs.Bytes.{if_then_else_, newline, space, digit0, letterG, letterP, letterT}
+use Rattle.job_file.specs.declared.Glass.{Glass}
+use Rattle.job_file.specs.declared.Pane.{Pane}
+
+-- The last `count` decimal digits of a number, the most significant first.
+unfoldable pub writtenDigits : ℕ → ℕ → List ℕ
+writtenDigits zero n = []
+writtenDigits (suc count) n = writtenDigits count (n / 10) ++ ((digit0 + n % 10) ∷ [])
+
+-- How many digits a number up to 99999 has.
+unfoldable pub digitCount : ℕ → ℕ
+digitCount n =
+    if ltb n 10 then 1
+    else if ltb n 100 then 2
+    else if ltb n 1000 then 3
+    else if ltb n 10000 then 4
+    else 5
+
+-- "A number has one to five decimal digits and no leading zero, except `0` itself."
+unfoldable pub writtenNumber : ℕ → List ℕ
+writtenNumber n = writtenDigits (digitCount n) n
+
+-- "one space before each number"
+unfoldable pub writtenNumbers : List ℕ → List ℕ
+writtenNumbers [] = []
+writtenNumbers (n ∷ ns) = space ∷ writtenNumber n ++ writtenNumbers ns
+
+-- "A line is a letter and then numbers", "ended by a newline".
+unfoldable pub writtenLine : ℕ → List ℕ → List ℕ
+writtenLine letter ns = letter ∷ writtenNumbers ns ++ (newline ∷ [])
+
+-- "Glass: `G id kind thick w h two four stock`"
+abbrev pub glassNumbers : Glass → List ℕ
+glassNumbers g = g .id ∷ g .kind ∷ g .thick ∷ g .w ∷ g .h ∷ g .two ∷ g .four ∷ g .stock ∷ []
+
+unfoldable pub writtenGlass : Glass → List ℕ
+writtenGlass g = writtenLine letterG (glassNumbers g)
+
+-- "Pane: `P id edges angle awning top w h down up`"
+abbrev pub paneNumbers : Pane → List ℕ
+paneNumbers p = p .id ∷ p .edges ∷ p .angle ∷ p .awning ∷ p .top ∷ p .w ∷ p .h ∷ p .down ∷ p .up ∷ []
+
+unfoldable pub writtenPane : Pane → List ℕ
+writtenPane p = writtenLine letterP (paneNumbers p)
+
+-- "zero or more lines"
+unfoldable pub writtenPart : {A : Type 0} → (A → List ℕ) → List A → List ℕ
+writtenPart written [] = []
+writtenPart written (x ∷ xs) = written x ++ writtenPart written xs
+
+-- "`T`, space, five digits, space, five digits, newline (byte 10)"
+unfoldable pub writtenTrailer : ℕ → ℕ → List ℕ
+writtenTrailer glass pane =
+    letterT ∷ space ∷ writtenDigits 5 glass ++ (space ∷ writtenDigits 5 pane ++ (newline ∷ []))
+
+-- Notes, the two parts, and a trailer that says where each part begins.
+unfoldable pub writtenFile : List ℕ → List Glass → List Pane → List ℕ
+writtenFile notes glasses panes =
+    let glassPart : List ℕ = writtenPart writtenGlass glasses in
+    let panePart : List ℕ = writtenPart writtenPane panes in
+    notes ++ (glassPart ++ (panePart ++ writtenTrailer (length notes) (length notes + length glassPart)))
