@@ -98,7 +98,7 @@ fn write_answer(answer: Checked) {
         Checked::Refused { cause, offset } => {
             write_line(
                 b"refused ",
-                job_file::number_of(cause) as u64,
+                job_part::number_of(cause) as u64,
                 offset as u64,
             );
         }

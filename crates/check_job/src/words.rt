@@ -1,10 +1,10 @@
 // A refusal in plain words: a sentence on standard error with the cause, its place in the file and what to do about it.
-use job_file::Cause;
+use job_part::Cause;
 use libc::STDERR_FILENO;
 
 pub(crate) fn explain(cause: Cause, offset: u64) {
     say(b"cause ");
-    io::print_decimal(STDERR_FILENO, job_file::number_of(cause) as u64);
+    io::print_decimal(STDERR_FILENO, job_part::number_of(cause) as u64);
     say(b": ");
     match cause {
         Cause::FileLength => file_length(),

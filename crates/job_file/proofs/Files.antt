@@ -12,14 +12,15 @@ use native.Mathlib.Omega.{arith}
 use lib.ListN.{length, take, drop, replicate, length-take, length-drop, take-append-drop}
 use lib.Seq.{take-all, length-take-le}
 use borrow.Author.Tests.{lt-ltb, le-ltb, le-leb, lt-leb}
-use Rattle.job_file.specs.Part.{Lines, whole, stopped, partLines}
-use Rattle.job_file.specs.GlassLine.{glassForm}
-use Rattle.job_file.specs.PaneLine.{paneForm}
+use Rattle.job_part.specs.Part.{Lines, whole, stopped, partLines}
+use Rattle.job_part.specs.GlassLine.{glassForm}
+use Rattle.job_part.specs.PaneLine.{paneForm}
 use Rattle.job_file.specs.File.{part, trailer, offsets, noTrailer, Outcome, accepted, refused, partsOutcome, outcomeOf}
-use Rattle.job_file.specs.Answer.{Answer, accepts, blankGlass, blankPane, padded, Reads}
-use Rattle.job_file.specs.Steps.{PartWhole}
-use Rattle.job_file.specs.declared.Glass.{Glass}
-use Rattle.job_file.specs.declared.Pane.{Pane}
+use Rattle.job_part.specs.Arrays.{blankGlass, blankPane, padded}
+use Rattle.job_file.specs.Answer.{Answer, accepts, Reads}
+use Rattle.job_part.specs.Steps.{PartWhole}
+use Rattle.job_part.specs.declared.Glass.{Glass}
+use Rattle.job_part.specs.declared.Pane.{Pane}
 use Rattle.job_file.specs.declared.Checked.the-variants.{Accepted}
 
 module _ (file : List ℕ) (glass pane end : ℕ) where

@@ -1,13 +1,3 @@
-pub mod Positions
-pub mod Digits
-pub mod Numbers
-pub mod Scan
-pub mod Fields
-pub mod Members
-pub mod Judging
 pub mod Trailers
-pub mod Parts
 pub mod Files
-pub mod Lists
-pub mod Kept
 pub mod Accepted

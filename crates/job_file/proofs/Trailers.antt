@@ -9,11 +9,11 @@ use mathlib.Core.List.{List}
 use native.Mathlib.Omega.{arith}
 use lib.ListN.{length, drop, length-drop}
 use borrow.Author.Tests.{eq-eqb, ne-eqb}
-use Rattle.job_file.specs.Bytes.{next, after, found, nothing}
-use Rattle.job_file.specs.Number.{digits}
+use Rattle.job_line.specs.Bytes.{next, after, found, nothing}
+use Rattle.job_line.specs.Number.{digits}
 use Rattle.job_file.specs.File.{fiveDigits, offset, offsets, noTrailer, trailerRest, trailer}
-use Rattle.job_file.proofs.Positions.{after-drop}
-use Rattle.job_file.proofs.Numbers.{byte-within}
+use Rattle.job_line.proofs.Positions.{after-drop}
+use Rattle.job_line.proofs.Numbers.{byte-within}
 
 module _ (s : List ℕ) (at b : ℕ) (is : b ≡ next (drop at s)) where
   pub offset-other : (b ≡ 32 → ⊥) → offset (drop at s) ≡ nothing

@@ -7,13 +7,13 @@ use mathlib.Core.Bool.{_&&_, _||_}
 use mathlib.Core.List.{List}
 use lib.Dec.{leb, ltb, eqb}
 use lib.ListN.{length, take, drop}
-use Rattle.job_file.specs.Bytes.{if_then_else_, newline, space, letterT, next, after, Found, found, nothing}
-use Rattle.job_file.specs.Number.{digits}
-use Rattle.job_file.specs.Part.{Lines, whole, stopped, partLines}
-use Rattle.job_file.specs.GlassLine.{glassForm}
-use Rattle.job_file.specs.PaneLine.{paneForm}
-use Rattle.job_file.specs.declared.Glass.{Glass}
-use Rattle.job_file.specs.declared.Pane.{Pane}
+use Rattle.job_line.specs.Bytes.{if_then_else_, newline, space, letterT, next, after, Found, found, nothing}
+use Rattle.job_line.specs.Number.{digits}
+use Rattle.job_part.specs.Part.{Lines, whole, stopped, partLines}
+use Rattle.job_part.specs.GlassLine.{glassForm}
+use Rattle.job_part.specs.PaneLine.{paneForm}
+use Rattle.job_part.specs.declared.Glass.{Glass}
+use Rattle.job_part.specs.declared.Pane.{Pane}
 
 -- Five digits, any of which may be 0: as many digits as come next, at most five, and no fewer.
 unfoldable pub fiveDigits : List ℕ → Found ℕ

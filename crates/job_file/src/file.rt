@@ -1,19 +1,20 @@
 // The whole file: specs/File.antt.
-use crate::Cause;
 use crate::Checked;
 use crate::Reading;
-use crate::glasses::NO_GLASS;
-use crate::glasses::read_glasses;
-use crate::panes::NO_PANE;
-use crate::panes::read_panes;
-use crate::part::PartEnd;
 use crate::trailer::Offsets;
 use crate::trailer::read_trailer;
+use job_part::Cause;
+use job_part::NO_GLASS;
+use job_part::NO_PANE;
+use job_part::PartEnd;
+use job_part::read_glasses;
+use job_part::read_panes;
 ghost use mathlib.Core.Path.{_≡_};
 ghost use Prim.Native.Nat.{_≤_};
 ghost use lib.ListN.{length};
 ghost use Rattle.job_file.specs.File.{outcomeOf, partsOutcome, refused};
-ghost use Rattle.job_file.specs.Answer.{numberOf, Reads};
+ghost use Rattle.job_part.specs.Cause.{numberOf};
+ghost use Rattle.job_file.specs.Answer.{Reads};
 
 // A file's glasses and panes, or the first cause against it.
 pub(crate) fn read_file(file: &[u8]) -> Reading

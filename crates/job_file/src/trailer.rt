@@ -1,11 +1,12 @@
 // The trailer, the last 14 bytes of a file: specs/File.antt.
-use crate::number::Number;
-use crate::number::byte_at;
-use crate::number::read_digits;
+use job_line::NumberAt;
+use job_line::byte_at;
+use job_line::read_digits;
 ghost use mathlib.Core.Path.{_≡_};
 ghost use lib.ListN.{drop};
 ghost use Rattle.job_file.specs.File.{offset, trailer, trailerRest};
-ghost use Rattle.job_file.specs.Steps.{NumberRead, TrailerRead};
+ghost use Rattle.job_line.specs.Steps.{NumberRead};
+ghost use Rattle.job_file.specs.Steps.{TrailerRead};
 
 // Where the glass part and the pane part begin, as a trailer says.
 pub enum Offsets {
@@ -21,8 +22,8 @@ pub(crate) fn read_trailer(s: &[u8]) -> Offsets
         return Offsets::NoOffsets;
     }
     match read_offset(s, 1) {
-        Number::Missing => Offsets::NoOffsets,
-        Number::Value(glass, next) => read_rest(s, next, glass as usize),
+        NumberAt::Missing => Offsets::NoOffsets,
+        NumberAt::Value(glass, next) => read_rest(s, next, glass as usize),
     }
 }
 
@@ -31,8 +32,8 @@ fn read_rest(s: &[u8], at: usize, glass: usize) -> Offsets
     ensures { λ r. ⌜ TrailerRead (trailerRest glass (drop at (now (s .entry)))) r ⌝ }
 {
     match read_offset(s, at) {
-        Number::Missing => Offsets::NoOffsets,
-        Number::Value(pane, end) => {
+        NumberAt::Missing => Offsets::NoOffsets,
+        NumberAt::Value(pane, end) => {
             if byte_at(s, end) == b'\n' {
                 Offsets::At(glass, pane as usize)
             } else {
@@ -43,20 +44,20 @@ fn read_rest(s: &[u8], at: usize, glass: usize) -> Offsets
 }
 
 // A space and five digits.
-fn read_offset(s: &[u8], at: usize) -> Number
+fn read_offset(s: &[u8], at: usize) -> NumberAt
     ensures { λ r. ⌜ NumberRead (now (s .entry)) (offset (drop at (now (s .entry)))) r ⌝ }
 {
     if byte_at(s, at) != b' ' {
-        return Number::Missing;
+        return NumberAt::Missing;
     }
     let from = at + 1;
     match read_digits(s, from, 0, 5) {
-        Number::Missing => Number::Missing,
-        Number::Value(value, end) => {
+        NumberAt::Missing => NumberAt::Missing,
+        NumberAt::Value(value, end) => {
             if end == from + 5 {
-                Number::Value(value, end)
+                NumberAt::Value(value, end)
             } else {
-                Number::Missing
+                NumberAt::Missing
             }
         }
     }

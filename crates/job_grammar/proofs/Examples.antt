@@ -10,9 +10,9 @@ use Prim.Native.String
 use mathlib.Core.Path.{_≡_, refl, ap}
 use mathlib.Core.List.{List, [], _∷_, _++_}
 use lib.ListN.{length}
-use Rattle.job_file.specs.Number.{digits, number}
-use Rattle.job_file.specs.Line.{numbers, ended, line}
-use Rattle.job_file.specs.Part.{among, judgedEntry, judged, lines, partLines}
+use Rattle.job_line.specs.Number.{digits, number}
+use Rattle.job_line.specs.Line.{numbers, ended, line}
+use Rattle.job_part.specs.Part.{among, judgedEntry, judged, lines, partLines}
 use Rattle.job_file.specs.File.{
   fiveDigits,
   offset,
@@ -25,8 +25,8 @@ use Rattle.job_file.specs.File.{
   outcomeOf,
 }
 use Rattle.job_file.specs.Answer.{accepts, answerOf}
-use Rattle.job_file.specs.declared.Glass.{Glass}
-use Rattle.job_file.specs.declared.Pane.{Pane}
+use Rattle.job_part.specs.declared.Glass.{Glass}
+use Rattle.job_part.specs.declared.Pane.{Pane}
 
 -- The bytes of a text of plain characters.
 abbrev pub bytesOf : String → List ℕ

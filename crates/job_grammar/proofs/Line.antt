@@ -12,11 +12,11 @@ use native.Mathlib.Omega.{arith}
 use lib.Dec.{leb, eqb, leb→le}
 use lib.ListN.{length}
 use borrow.Author.Tests.{eqb-true, eq-eqb}
-use Rattle.job_file.specs.Bytes.{if_then_else_, newline, space, next, after, Found, found, nothing}
-use Rattle.job_file.specs.Number.{isDigit, number}
-use Rattle.job_file.specs.Line.{numbers, ended, line}
-use Rattle.job_file.specs.Rules.{Every}
-use Rattle.job_file.proofs.Kept.{clash}
+use Rattle.job_line.specs.Bytes.{if_then_else_, newline, space, next, after, Found, found, nothing}
+use Rattle.job_line.specs.Number.{isDigit, number}
+use Rattle.job_line.specs.Line.{numbers, ended, line}
+use Rattle.job_part.specs.Rules.{Every}
+use Rattle.job_part.proofs.Kept.{clash}
 use Rattle.job_grammar.specs.Written.{writtenNumber, writtenNumbers, writtenLine}
 use Rattle.job_grammar.proofs.Numbers.{written-number, number-read}
 

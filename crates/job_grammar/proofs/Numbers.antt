@@ -10,9 +10,9 @@ use native.Mathlib.Omega.{arith}
 use native.Mathlib.Nat.{pow-suc, zero-add}
 use lib.Dec.{leb, ltb, eqb}
 use borrow.Author.Tests.{leb-true, eqb-true, eqb-false, lt-ltb, le-ltb, le-leb, ne-eqb, ltb-true, ltb-false}
-use Rattle.job_file.specs.Bytes.{if_then_else_, next, found, nothing}
-use Rattle.job_file.specs.Number.{isDigit, digits, number}
-use Rattle.job_file.proofs.Kept.{clash}
+use Rattle.job_line.specs.Bytes.{if_then_else_, next, found, nothing}
+use Rattle.job_line.specs.Number.{isDigit, digits, number}
+use Rattle.job_part.proofs.Kept.{clash}
 use Rattle.job_grammar.specs.Written.{writtenDigits, digitCount, writtenNumber}
 use Rattle.job_grammar.proofs.Digits.{written-digits, no-more-digits, digits-read}
 

@@ -11,10 +11,10 @@ use native.Mathlib.Omega.{arith}
 use native.Mathlib.Nat.{le-of-suc-le-suc}
 use lib.Dec.{T}
 use lib.ListN.{length}
-use Rattle.job_file.specs.Part.{Form, whole, lines, partLines}
-use Rattle.job_file.specs.Rules.{Every, Distinct, PartRules}
-use Rattle.job_file.proofs.Lists.{distinct-new}
-use Rattle.job_file.proofs.Kept.{Taken, taken-is, keep}
+use Rattle.job_part.specs.Part.{Form, whole, lines, partLines}
+use Rattle.job_part.specs.Rules.{Every, Distinct, PartRules}
+use Rattle.job_part.proofs.Lists.{distinct-new}
+use Rattle.job_part.proofs.Kept.{Taken, taken-is, keep}
 use Rattle.job_grammar.specs.Written.{writtenLine, writtenPart}
 use Rattle.job_grammar.proofs.Line.{Small, written-line, line-read}
 

@@ -6,7 +6,7 @@ use mathlib.Core.Path.{_≡_}
 use lib.ListN.{length}
 use denote.Ref.{now}
 use Rattle.job_file.specs.File.{part}
-use Rattle.job_file.specs.Answer.{numberOf}
+use Rattle.job_part.specs.Cause.{numberOf}
 use Rattle.job_file.proofs.Files.{part-end, parts-glass, parts-pane, parts-whole, reads-whole}
 use Rattle.job_file.proofs.file.read_parts.Statement.{statement}
 use Rattle.job_file.proofs.file.read_parts.Tie as tie

@@ -4,7 +4,7 @@ use native.Mathlib.Omega.{arith}
 use Prim.Native.Nat.{_+_, _≤_}
 use lib.ListN.{length}
 use denote.Ref.{now}
-use Rattle.job_file.proofs.Numbers.{byte-within}
+use Rattle.job_line.proofs.Numbers.{byte-within}
 use Rattle.job_file.proofs.Trailers.{offset-other, offset-missing, offset-short, offset-whole}
 use Rattle.job_file.proofs.trailer.read_offset.Statement.{statement}
 use Rattle.job_file.proofs.trailer.read_offset.Tie as tie

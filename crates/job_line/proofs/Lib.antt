@@ -1,0 +1,4 @@
+pub mod Positions
+pub mod Digits
+pub mod Numbers
+pub mod Scan

@@ -1,0 +1,37 @@
+-- A line's causes, by the tests that led to them.
+--     entry-value, entry-repeated, entry-long   causes 5, 6 and 7
+--     entry-taken                               none of them
+--     line-form, line-entry                     cause 4, or the line's entry
+use Prim.Native.Nat.{ℕ}
+use mathlib.Core.Path.{_≡_, refl}
+use mathlib.Core.Bool.{true, false}
+use mathlib.Core.List.{List}
+use Rattle.job_line.specs.Bytes.{found, nothing}
+use Rattle.job_line.specs.Line.{line}
+use Rattle.job_part.specs.Part.{Form, among, taken, faulty, judgedEntry, judged}
+
+module _ {A : Type 0} (form : Form A) (ids : List ℕ) (x : A) (rest : List ℕ) where
+  pub entry-value : form .allowed x ≡ false → judgedEntry form ids x rest ≡ faulty 5
+  unfolding judgedEntry
+  entry-value bad = rw bad
+
+  pub entry-repeated : form .allowed x ≡ true → among (form .id x) ids ≡ true → judgedEntry form ids x rest ≡ faulty 6
+  unfolding judgedEntry
+  entry-repeated good seen = rw (good, seen)
+
+  pub entry-long : form .allowed x ≡ true → among (form .id x) ids ≡ false → form .tooLong x ≡ true → judgedEntry form ids x rest ≡ faulty 7
+  unfolding judgedEntry
+  entry-long good new long = rw (good, new, long)
+
+  pub entry-taken : form .allowed x ≡ true → among (form .id x) ids ≡ false → form .tooLong x ≡ false → judgedEntry form ids x rest ≡ taken x rest
+  unfolding judgedEntry
+  entry-taken good new short = rw (good, new, short)
+
+module _ {A : Type 0} (form : Form A) (ids bytes : List ℕ) where
+  pub line-form : line (form .letter) (form .count) bytes ≡ nothing → judged form ids bytes ≡ faulty 4
+  unfolding judged
+  line-form none = rw (none, judged)
+
+  pub line-entry : (ns rest : List ℕ) → line (form .letter) (form .count) bytes ≡ found ns rest → judged form ids bytes ≡ judgedEntry form ids (form .entry ns) rest
+  unfolding judged
+  line-entry ns rest one = rw (one, judged)

@@ -1,0 +1,125 @@
+-- What every taken line keeps, a whole part keeps: `lines` takes one line after the other, so a claim that each taken line
+-- hands on holds where no byte is left.
+--     Taken        what a line that is taken was: the numbers read, and that no cause 5, 6 or 7 met it
+--     taken-was    a line is taken only so
+--     taken-is     such a line is taken
+--     keep         a claim about the lines left, the entries so far and the bytes left, handed on by each taken line
+--     clash        whatever follows from two constructors' being equal
+use Prim.Native.Nat.{ℕ, zero, suc, _-_}
+use mathlib.Core.Path.{_≡_, refl, subst}
+use mathlib.Core.Bool.{Bool, true, false, not}
+use mathlib.Core.List.{List, [], _∷_, _++_, map}
+use native.Mathlib.Omega.{arith}
+use lib.Dec.{T}
+use lib.ListN.{length}
+use Rattle.job_line.specs.Bytes.{if_then_else_, Found, found, nothing}
+use Rattle.job_line.specs.Line.{line}
+use Rattle.job_part.specs.Part.{Form, among, Judged, taken, faulty, judgedEntry, judged, whole, stopped, lines}
+
+pub record Taken {A : Type 0} (form : Form A) (earlier : List A) (bytes : List ℕ) (x : A) (rest : List ℕ) : Type 0 where
+  pub numbers : List ℕ
+  pub read : line (form .letter) (form .count) bytes ≡ found numbers rest
+  pub says : form .entry numbers ≡ x
+  pub allowed : T (form .allowed x)
+  pub new : T (not (among (form .id x) (map (form .id) earlier)))
+  pub in-proportion : T (not (form .tooLong x))
+
+-- Two constructors are never equal: `cc` makes any claim of that kind into this one.
+pub clash : {B : Type 0} → _≡_ {A = ℕ} 0 1 → B
+clash e = absurd (omega arith)
+
+module _ {A : Type 0} (form : Form A) where
+  -- The three tests of an entry: an entry that is taken passed them, and one that passes them is taken.
+  gates :
+      (a m l : Bool) (x y : A) (rest rest′ : List ℕ) →
+      (if not a then faulty 5 else if m then faulty 6 else if l then faulty 7 else taken x rest) ≡ taken y rest′ →
+      T a × T (not m) × T (not l) × (x ≡ y) × (rest ≡ rest′)
+  gates true false false x y rest rest′ e = (tt, tt, tt, cc, cc)
+  gates false m l x y rest rest′ e = clash (cc)
+  gates true true l x y rest rest′ e = clash (cc)
+  gates true false true x y rest rest′ e = clash (cc)
+
+  pub taken-was :
+      (earlier : List A) (bytes : List ℕ) (x : A) (rest : List ℕ) →
+      judged form (map (form .id) earlier) bytes ≡ taken x rest →
+      Taken form earlier bytes x rest
+  unfolding judged judgedEntry
+  taken-was earlier bytes x rest = go (line (form .letter) (form .count) bytes) refl
+    where
+      go :
+          (f : Found (List ℕ)) → line (form .letter) (form .count) bytes ≡ f →
+          elim f [
+            | found ns after ↦ judgedEntry form (map (form .id) earlier) (form .entry ns) after
+            | nothing ↦ faulty 4
+          ] ≡ taken x rest → Taken form earlier bytes x rest
+      go (found ns after) q e =
+          let y : A = form .entry ns in
+          let g = gates (form .allowed y) (among (form .id y) (map (form .id) earlier)) (form .tooLong y) y x after rest e in
+          record {
+            numbers = ns;
+            read = cc;
+            says = g .3;
+            allowed = rw (g .3) at (g .0);
+            new = rw (g .3) at (g .1);
+            in-proportion = rw (g .3) at (g .2);
+          }
+      go nothing q e = clash (cc)
+
+  passes :
+      (a m l : Bool) (x : A) (rest : List ℕ) →
+      T a →
+      T (not m) →
+      T (not l) →
+      (if not a then faulty 5 else if m then faulty 6 else if l then faulty 7 else taken x rest) ≡ taken x rest
+  passes true false false x rest h k p = refl
+  passes false m l x rest h k p = absurd h
+  passes true true l x rest h k p = absurd k
+  passes true false true x rest h k p = absurd p
+
+  pub taken-is :
+      (earlier : List A) (bytes : List ℕ) (x : A) (rest : List ℕ) →
+      Taken form earlier bytes x rest →
+      judged form (map (form .id) earlier) bytes ≡ taken x rest
+  unfolding judged judgedEntry
+  taken-is earlier bytes x rest t =
+      rw (judged, t .read, t .says)
+      (passes (form .allowed x) (among (form .id x) (map (form .id) earlier)) (form .tooLong x) x rest
+      (t .allowed)
+      (t .new)
+      (t .in-proportion))
+
+  module _
+      (P : ℕ → List A → List ℕ → Type 0)
+      (step :
+      (left : ℕ) (earlier : List A) (bytes : List ℕ) (x : A) (rest : List ℕ) →
+      P (suc left) earlier bytes →
+      Taken form earlier bytes x rest →
+      P left (earlier ++ (x ∷ [])) rest)
+      (end : ℕ)
+    where
+      pub keep :
+          (left : ℕ) (earlier : List A) (bytes : List ℕ) (xs : List A) →
+          lines form end left earlier bytes ≡ whole xs →
+          P left earlier bytes →
+          (last : ℕ) × P last xs []
+      unfolding lines
+      keep zero earlier [] xs e p = (0, subst (λ l. P 0 l []) (cc) p)
+      keep zero earlier (b ∷ bytes) xs e p = clash (cc)
+      keep (suc left) earlier [] xs e p = (suc left, subst (λ l. P (suc left) l []) (cc) p)
+      keep (suc left) earlier (b ∷ bytes) xs e p =
+          go (λ x rest. keep left (earlier ++ (x ∷ [])) rest xs) (judged form (map (form .id) earlier) (b ∷ bytes)) refl e
+        where
+          go :
+              ((x : A) (rest : List ℕ) →
+              lines form end left (earlier ++ (x ∷ [])) rest ≡ whole xs →
+              P left (earlier ++ (x ∷ [])) rest →
+              (last : ℕ) × P last xs []) →
+              (j : Judged A) → judged form (map (form .id) earlier) (b ∷ bytes) ≡ j →
+              elim j [
+                | taken x rest ↦ lines form end left (earlier ++ (x ∷ [])) rest
+                | faulty cause ↦ stopped cause (end - length (b ∷ bytes))
+              ] ≡ whole xs →
+              (last : ℕ) × P last xs []
+          go next (taken x rest) q f =
+              next x rest f (step left earlier (b ∷ bytes) x rest p (taken-was earlier (b ∷ bytes) x rest q))
+          go next (faulty cause) q f = clash (cc)
