@@ -1,13 +1,9 @@
 -- `file::read_file` meets its contract: each return is the outcome that the tests on the way there decide.
 use borrow.Author.Needs.{needs}
-use native.Mathlib.Omega.{arith}
-use lib.ListN.{length}
 use denote.Ref.{now}
 use Rattle.job_file.proofs.Files.{tail-part, file-short, file-over, file-trailer, file-order, file-beyond, file-parts}
 use Rattle.job_file.proofs.file.read_file.Statement.{statement}
 use Rattle.job_file.proofs.file.read_file.Tie as tie
-use Rattle.job_file.proofs.file.read_file.Reads as reads
-use Rattle.job_file.proofs.file.read_file.Lts as lts
 
 short : tie.Need-returns
 short c = rw (file-short (now (c .before .before .before .args .file)) (c .before .if1 .taken)) (c .refusal .ensures)

@@ -10,8 +10,6 @@ use Rattle.job_part.specs.Cause.{numberOf}
 use Rattle.job_file.proofs.Files.{part-end, parts-glass, parts-pane, parts-whole, reads-whole}
 use Rattle.job_file.proofs.file.read_parts.Statement.{statement}
 use Rattle.job_file.proofs.file.read_parts.Tie as tie
-use Rattle.job_file.proofs.file.read_parts.Reads as reads
-use Rattle.job_file.proofs.file.read_parts.Lts as lts
 
 -- each part ends where the next begins
 glass-end : (c : tie.Start) → c .args .glass + length (part (now (c .args .file)) (c .args .glass) (c .args .pane)) ≡ c .args .pane

@@ -8,8 +8,6 @@ use Rattle.job_line.proofs.Numbers.{byte-within}
 use Rattle.job_file.proofs.Trailers.{offset-other, offset-missing, offset-short, offset-whole}
 use Rattle.job_file.proofs.trailer.read_offset.Statement.{statement}
 use Rattle.job_file.proofs.trailer.read_offset.Tie as tie
-use Rattle.job_file.proofs.trailer.read_offset.Reads as reads
-use Rattle.job_file.proofs.trailer.read_offset.Lts as lts
 
 other : tie.Need-returns
 other c =

@@ -11,8 +11,6 @@ use Rattle.job_line.proofs.Digits.{digit-high}
 use Rattle.job_line.proofs.Numbers.{digit-within, number-zero, number-more, number-none}
 use Rattle.job_line.proofs.number.read_number.Statement.{statement}
 use Rattle.job_line.proofs.number.read_number.Tie as tie
-use Rattle.job_line.proofs.number.read_number.Reads as reads
-use Rattle.job_line.proofs.number.read_number.Lts as lts
 
 zero-digit : tie.Need-returns
 zero-digit c =

@@ -9,8 +9,6 @@ use Rattle.job_part.specs.declared.Glass.{Glass}
 use Rattle.job_part.proofs.Judging.{line-form, line-entry}
 use Rattle.job_part.proofs.glasses.read_glass.Statement.{statement}
 use Rattle.job_part.proofs.glasses.read_glass.Tie as tie
-use Rattle.job_part.proofs.glasses.read_glass.Reads as reads
-use Rattle.job_part.proofs.glasses.read_glass.Lts as lts
 
 no-line : tie.Need-returns
 no-line c =

@@ -12,8 +12,6 @@ use Rattle.job_part.specs.Arrays.{blankGlass}
 use Rattle.job_part.proofs.Parts.{Progress, progress-begin, progress-taken, progress-many, progress-faulty, progress-end}
 use Rattle.job_part.proofs.glasses.read_glasses.Statement.{statement}
 use Rattle.job_part.proofs.glasses.read_glasses.Tie as tie
-use Rattle.job_part.proofs.glasses.read_glasses.Reads as reads
-use Rattle.job_part.proofs.glasses.read_glasses.Lts as lts
 
 abbrev Inv-loop : tie.InvT-loop
 Inv-loop part offset glasses₀ ids₀ n₀ at₀ glasses ids n at = Progress glassForm blankGlass (offset + length part) part glasses ids n at

@@ -2,17 +2,14 @@
 use borrow.Author.Needs.{needs, scaled-fits}
 use Prim.Native.Nat.{_≤_, _-_}
 use native.Mathlib.Omega.{arith}
-use mathlib.Core.Path.{_≡_, refl, sym, _∙_}
-use mathlib.Core.Bool.{true, false}
-use lib.ListN.{length, getD, take}
+use mathlib.Core.Path.{_≡_, refl, sym}
+use mathlib.Core.Bool.{false}
+use lib.ListN.{take}
 use denote.Ref.{now}
-use borrow.Author.Tests.{eq-eqb, ne-eqb}
 use Rattle.job_part.specs.Part.{among}
 use Rattle.job_part.proofs.Members.{among-found, among-next}
 use Rattle.job_part.proofs.ids.is_among.Statement.{statement}
 use Rattle.job_part.proofs.ids.is_among.Tie as tie
-use Rattle.job_part.proofs.ids.is_among.Reads as reads
-use Rattle.job_part.proofs.ids.is_among.Lts as lts
 
 abbrev Inv-loop : tie.InvT-loop
 Inv-loop id ids count i₀ i = (i ≤ count) × (among id (take i ids) ≡ false)

@@ -9,8 +9,6 @@ use Rattle.job_part.specs.declared.Pane.{Pane}
 use Rattle.job_part.proofs.Judging.{line-form, line-entry}
 use Rattle.job_part.proofs.panes.read_pane.Statement.{statement}
 use Rattle.job_part.proofs.panes.read_pane.Tie as tie
-use Rattle.job_part.proofs.panes.read_pane.Reads as reads
-use Rattle.job_part.proofs.panes.read_pane.Lts as lts
 
 no-line : tie.Need-returns
 no-line c =

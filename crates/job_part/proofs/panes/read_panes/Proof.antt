@@ -12,8 +12,6 @@ use Rattle.job_part.specs.Arrays.{blankPane}
 use Rattle.job_part.proofs.Parts.{Progress, progress-begin, progress-taken, progress-many, progress-faulty, progress-end}
 use Rattle.job_part.proofs.panes.read_panes.Statement.{statement}
 use Rattle.job_part.proofs.panes.read_panes.Tie as tie
-use Rattle.job_part.proofs.panes.read_panes.Reads as reads
-use Rattle.job_part.proofs.panes.read_panes.Lts as lts
 
 abbrev Inv-loop : tie.InvT-loop
 Inv-loop part offset panes₀ ids₀ n₀ at₀ panes ids n at = Progress paneForm blankPane (offset + length part) part panes ids n at
