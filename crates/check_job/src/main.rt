@@ -3,11 +3,18 @@
 // With no arguments the file is standard input, and one line says `accepted GLASSES PANES` or `refused NUMBER OFFSET`. With
 // arguments each is the name of a file, and a line for each begins with that name. The refusal of a single file is also put
 // in plain words, on standard error.
+mod place;
 mod words;
 
 use job_file::Checked;
 use libc::STDIN_FILENO;
 use libc::STDOUT_FILENO;
+
+// The answer to a file, and the number of the line where a refusal's offset lies.
+struct Finding {
+    checked: Checked,
+    line: usize,
+}
 
 fn main() {
     let count = os::arg_count();
@@ -24,9 +31,10 @@ fn main() {
 
 // Answers for standard input.
 fn check_input() {
-    let answer = check_open(STDIN_FILENO);
-    write_answer(answer);
-    explain(answer);
+    let finding = check_open(STDIN_FILENO);
+    let checked = finding.checked;
+    write_answer(checked);
+    explain(finding);
 }
 
 // Answers for the file that argument `i` names. An argument that is too long for the buffer fills it with its beginning; that
@@ -57,25 +65,40 @@ fn check_named(name: &[u8], is_single: bool) {
 // Answers for the open file of that name, or says that it was not read, as where the name is a folder's. Reading stops where a
 // file ends and also where it fails; one more read tells which it was.
 fn answer_for(fd: i32, name: &[u8], is_single: bool) {
-    let answer = check_open(fd);
+    let finding = check_open(fd);
     if !can_read(fd) {
         os::fail(name);
         write_name(name);
         io::write_all(STDOUT_FILENO, b"not read\n");
         return;
     }
+    let checked = finding.checked;
     write_name(name);
-    write_answer(answer);
+    write_answer(checked);
     if is_single {
-        explain(answer);
+        explain(finding);
     }
 }
 
 // The check of what an open file holds, of which one byte over the limit is enough to see that it is over.
-fn check_open(fd: i32) -> Checked {
+fn check_open(fd: i32) -> Finding {
     let mut file = io::large_buffer();
     let n = io::read_full(fd, &mut file);
-    job_file::check(&file[..n])
+    find(&file[..n])
+}
+
+fn find(file: &[u8]) -> Finding {
+    let checked = job_file::check(file);
+    match checked {
+        Checked::Accepted {
+            glasses: _,
+            panes: _,
+        } => Finding { checked, line: 0 },
+        Checked::Refused { cause: _, offset } => Finding {
+            checked,
+            line: place::line_number(file, offset),
+        },
+    }
 }
 
 // Whether a read of an open file succeeds, as it does at its end.
@@ -114,14 +137,15 @@ fn write_line(word: &[u8], first: u64, second: u64) {
 }
 
 // A refusal in plain words; nothing of an accepted file.
-fn explain(answer: Checked) {
-    match answer {
+fn explain(finding: Finding) {
+    let checked = finding.checked;
+    match checked {
         Checked::Accepted {
             glasses: _,
             panes: _,
         } => {}
         Checked::Refused { cause, offset } => {
-            words::explain(cause, offset as u64);
+            words::explain(cause, offset as u64, finding.line as u64);
         }
     }
 }

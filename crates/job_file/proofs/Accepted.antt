@@ -24,18 +24,7 @@ use Rattle.job_part.specs.declared.Pane.{Pane}
 use Rattle.job_part.proofs.Kept.{clash}
 use Rattle.job_part.proofs.Lists.{every-at}
 use Rattle.job_part.proofs.Values.{part-rules, ids-at, allowed-glass, allowed-pane}
-use Rattle.job_file.specs.File.{
-  Trailer,
-  offsets,
-  noTrailer,
-  trailer,
-  Outcome,
-  accepted,
-  refused,
-  part,
-  partsOutcome,
-  outcomeOf,
-}
+use Rattle.job_file.specs.File.{Trailer, offsets, noTrailer, trailer, Outcome, accepted, refused, part, partsOutcome, outcomeOf}
 use Rattle.job_file.specs.Rules.{Rules}
 
 -- What each test of the file says.

@@ -6,18 +6,18 @@
 --     file-parts                                    none of them
 --     reads-whole                                   two parts that were read whole
 use Prim.Native.Nat.{ℕ, _+_, _-_, _≤_, _<_}
-use mathlib.Core.Path.{_≡_, refl, ap, ap₂, sym, _∙_}
-use mathlib.Core.List.{List, _++_}
+use mathlib.Core.Path.{_≡_, ap₂, sym}
+use mathlib.Core.List.{List}
 use native.Mathlib.Omega.{arith}
-use lib.ListN.{length, take, drop, replicate, length-take, length-drop, take-append-drop}
+use lib.ListN.{length, take, drop, length-take, length-drop, take-append-drop}
 use lib.Seq.{take-all, length-take-le}
 use borrow.Author.Tests.{lt-ltb, le-ltb, le-leb, lt-leb}
 use Rattle.job_part.specs.Part.{Lines, whole, stopped, partLines}
 use Rattle.job_part.specs.GlassLine.{glassForm}
 use Rattle.job_part.specs.PaneLine.{paneForm}
-use Rattle.job_file.specs.File.{part, trailer, offsets, noTrailer, Outcome, accepted, refused, partsOutcome, outcomeOf}
+use Rattle.job_file.specs.File.{part, trailer, offsets, noTrailer, accepted, refused, partsOutcome, outcomeOf}
 use Rattle.job_part.specs.Arrays.{blankGlass, blankPane, padded}
-use Rattle.job_file.specs.Answer.{Answer, accepts, Reads}
+use Rattle.job_file.specs.Answer.{accepts, Reads}
 use Rattle.job_part.specs.Steps.{PartWhole}
 use Rattle.job_part.specs.declared.Glass.{Glass}
 use Rattle.job_part.specs.declared.Pane.{Pane}

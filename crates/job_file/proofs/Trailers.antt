@@ -3,13 +3,13 @@
 --     offset-whole                                 a space and five digits
 --     rest-none, rest-open, rest-whole             what follows the glass offset
 --     trailer-other, trailer-none, trailer-rest    the letter, and what follows it
-use Prim.Native.Nat.{ℕ, _+_, _-_, _≤_}
-use mathlib.Core.Path.{_≡_, refl, sym, _∙_}
+use Prim.Native.Nat.{ℕ, _+_, _≤_}
+use mathlib.Core.Path.{_≡_}
 use mathlib.Core.List.{List}
 use native.Mathlib.Omega.{arith}
 use lib.ListN.{length, drop, length-drop}
 use borrow.Author.Tests.{eq-eqb, ne-eqb}
-use Rattle.job_line.specs.Bytes.{next, after, found, nothing}
+use Rattle.job_line.specs.Bytes.{next, found, nothing}
 use Rattle.job_line.specs.Number.{digits}
 use Rattle.job_file.specs.File.{fiveDigits, offset, offsets, noTrailer, trailerRest, trailer}
 use Rattle.job_line.proofs.Positions.{after-drop}

@@ -9,7 +9,7 @@ use lib.Dec.{leb, ltb, eqb}
 use lib.ListN.{length, take, drop}
 use Rattle.job_line.specs.Bytes.{if_then_else_, newline, space, letterT, next, after, Found, found, nothing}
 use Rattle.job_line.specs.Number.{digits}
-use Rattle.job_part.specs.Part.{Lines, whole, stopped, partLines}
+use Rattle.job_part.specs.Part.{whole, stopped, partLines}
 use Rattle.job_part.specs.GlassLine.{glassForm}
 use Rattle.job_part.specs.PaneLine.{paneForm}
 use Rattle.job_part.specs.declared.Glass.{Glass}

@@ -13,17 +13,7 @@ use lib.ListN.{length}
 use Rattle.job_line.specs.Number.{digits, number}
 use Rattle.job_line.specs.Line.{numbers, ended, line}
 use Rattle.job_part.specs.Part.{among, judgedEntry, judged, lines, partLines}
-use Rattle.job_file.specs.File.{
-  fiveDigits,
-  offset,
-  trailerRest,
-  trailer,
-  Outcome,
-  accepted,
-  refused,
-  partsOutcome,
-  outcomeOf,
-}
+use Rattle.job_file.specs.File.{fiveDigits, offset, trailerRest, trailer, Outcome, accepted, refused, partsOutcome, outcomeOf}
 use Rattle.job_file.specs.Answer.{accepts, answerOf}
 use Rattle.job_part.specs.declared.Glass.{Glass}
 use Rattle.job_part.specs.declared.Pane.{Pane}

@@ -8,7 +8,7 @@ use mathlib.Core.Path.{_≡_}
 use mathlib.Core.Logic.{_↔_}
 use mathlib.Core.List.{List}
 use lib.ListN.{length, drop}
-use Rattle.job_file.specs.File.{Trailer, offsets, trailer, part, Outcome, accepted, outcomeOf}
+use Rattle.job_file.specs.File.{offsets, trailer, part, accepted, outcomeOf}
 use Rattle.job_file.specs.Rules.{Rules}
 use Rattle.job_part.specs.declared.Glass.{Glass}
 use Rattle.job_part.specs.declared.Pane.{Pane}

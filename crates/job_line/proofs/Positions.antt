@@ -3,12 +3,12 @@
 --     after-drop    behind it are the bytes from `at + 1` on
 --     within        a position whose next byte is not 0 is within the slice
 --     rest-length   how many bytes there are from a position within the slice on
-use Prim.Native.Nat.{ℕ, zero, suc, _+_, _-_, _≤_, _<_}
+use Prim.Native.Nat.{ℕ, zero, suc, _+_, _≤_, _<_}
 use mathlib.Core.Path.{_≡_, refl, ap, sym, _∙_}
 use mathlib.Core.List.{List, [], _∷_}
 use native.Mathlib.Numerals.{add-one}
 use native.Mathlib.Omega.{arith}
-use lib.ListN.{length, getD, drop, length-drop}
+use lib.ListN.{length, getD, drop}
 use Rattle.job_line.specs.Bytes.{next, after}
 
 pub next-drop : (s : List ℕ) (at : ℕ) → next (drop at s) ≡ getD s at 0

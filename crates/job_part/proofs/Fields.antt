@@ -3,7 +3,7 @@ use Prim.Native.Nat.{ℕ}
 use mathlib.Core.Path.{_≡_, sym}
 use mathlib.Core.List.{List}
 use lib.Dec.{lit<}
-use lib.ListN.{take, getD}
+use lib.ListN.{take}
 use lib.Seq.{getD-take}
 use Rattle.job_part.specs.GlassLine.{glassOf}
 use Rattle.job_part.specs.PaneLine.{paneOf}

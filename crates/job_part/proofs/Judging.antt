@@ -3,7 +3,7 @@
 --     entry-taken                               none of them
 --     line-form, line-entry                     cause 4, or the line's entry
 use Prim.Native.Nat.{ℕ}
-use mathlib.Core.Path.{_≡_, refl}
+use mathlib.Core.Path.{_≡_}
 use mathlib.Core.Bool.{true, false}
 use mathlib.Core.List.{List}
 use Rattle.job_line.specs.Bytes.{found, nothing}

@@ -12,7 +12,7 @@ use native.Mathlib.Omega.{arith}
 use lib.ListN.{length, take, drop, set, replicate, length-drop, length-set, length-replicate}
 use lib.Seq.{take-suc-set, drop-set-lt, drop-drop}
 use Rattle.job_part.specs.Steps.{PartWhole}
-use Rattle.job_part.specs.Part.{Form, taken, faulty, judged, Lines, whole, stopped, lines, partLines}
+use Rattle.job_part.specs.Part.{Form, taken, faulty, judged, whole, stopped, lines, partLines}
 
 module _ {A : Type 0} (form : Form A) (end : ℕ) where
   pub lines-end : (left : ℕ) (earlier : List A) (bytes : List ℕ) → length bytes ≤ 0 → lines form end left earlier bytes ≡ whole earlier

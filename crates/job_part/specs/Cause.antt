@@ -1,16 +1,7 @@
 -- Document 01, "What each cause gives": the table's column "Number".
 use Prim.Native.Nat.{ℕ}
 use Rattle.job_part.specs.declared.Cause.{Cause}
-use Rattle.job_part.specs.declared.Cause.the-variants.{
-  FileLength,
-  NoTrailer,
-  PartOffsets,
-  LineForm,
-  NumberValue,
-  RepeatedId,
-  TooLong,
-  TooManyLines,
-}
+use Rattle.job_part.specs.declared.Cause.the-variants.{FileLength, NoTrailer, PartOffsets, LineForm, NumberValue, RepeatedId, TooLong, TooManyLines}
 
 abbrev pub numberOf : Cause → ℕ
 numberOf FileLength = 1

@@ -6,7 +6,7 @@ use mathlib.Core.Bool.{Bool, false, not, _&&_, _||_}
 use mathlib.Core.List.{List, [], _∷_, _++_, map}
 use lib.Dec.{leb, eqb}
 use lib.ListN.{length}
-use Rattle.job_line.specs.Bytes.{if_then_else_, Found, found, nothing}
+use Rattle.job_line.specs.Bytes.{if_then_else_, found, nothing}
 use Rattle.job_line.specs.Line.{line}
 
 -- What the lines of a part are like. `A` is what one line says: a glass or a pane.

@@ -1,0 +1,14 @@
+-- Where an offset lies, as an editor counts lines.
+use Prim.Native.Nat.{ℕ, _+_}
+use mathlib.Core.List.{List, [], _∷_}
+use lib.Dec.{eqb}
+use lib.ListN.{take}
+use Rattle.job_line.specs.Bytes.{if_then_else_, newline}
+
+unfoldable pub newlines : List ℕ → ℕ
+newlines [] = 0
+newlines (b ∷ bytes) = (if eqb b newline then 1 else 0) + newlines bytes
+
+-- One more than the newlines before the offset.
+abbrev pub lineOf : List ℕ → ℕ → ℕ
+lineOf file offset = 1 + newlines (take offset file)
