@@ -1,3 +1,4 @@
 pub mod Trailers
 pub mod Files
 pub mod Accepted
+pub mod Jobs
