@@ -15,15 +15,19 @@ use lib.ListN.{length, getD, drop}
 use borrow.Author.Tests.{ltb-false, leb-true, le-ltb, le-leb}
 use Rattle.job_line.specs.Bytes.{if_then_else_}
 use Rattle.job_part.specs.Part.{Lines, whole, stopped, partLines}
-use Rattle.job_part.specs.GlassLine.{glassForm, allowedGlass}
-use Rattle.job_part.specs.PaneLine.{paneForm, allowedPane, tooLongPane}
-use Rattle.job_part.specs.Arrays.{blankGlass, blankPane}
-use Rattle.job_part.specs.Rules.{GlassValues, PaneValues}
-use Rattle.job_part.specs.declared.Glass.{Glass}
-use Rattle.job_part.specs.declared.Pane.{Pane}
+use Rattle.job_glass.specs.GlassLine.{glassForm, allowedGlass}
+use Rattle.job_pane.specs.PaneLine.{paneForm, allowedPane, tooLongPane}
+use Rattle.job_glass.specs.GlassLine.{blankGlass}
+use Rattle.job_pane.specs.PaneLine.{blankPane}
+use Rattle.job_glass.specs.Values.{GlassValues}
+use Rattle.job_pane.specs.Values.{PaneValues}
+use Rattle.job_glass.specs.declared.Glass.{Glass}
+use Rattle.job_pane.specs.declared.Pane.{Pane}
 use Rattle.job_part.proofs.Kept.{clash}
 use Rattle.job_part.proofs.Lists.{every-at}
-use Rattle.job_part.proofs.Values.{part-rules, ids-at, allowed-glass, allowed-pane}
+use Rattle.job_part.proofs.Laws.{part-rules, ids-at}
+use Rattle.job_glass.proofs.Values.{allowed-glass}
+use Rattle.job_pane.proofs.Values.{allowed-pane}
 use Rattle.job_file.specs.File.{Trailer, offsets, noTrailer, trailer, Outcome, accepted, refused, part, partsOutcome, outcomeOf}
 use Rattle.job_file.specs.Rules.{Rules}
 

@@ -13,14 +13,16 @@ use lib.ListN.{length, take, drop, length-take, length-drop, take-append-drop}
 use lib.Seq.{take-all, length-take-le}
 use borrow.Author.Tests.{lt-ltb, le-ltb, le-leb, lt-leb}
 use Rattle.job_part.specs.Part.{Lines, whole, stopped, partLines}
-use Rattle.job_part.specs.GlassLine.{glassForm}
-use Rattle.job_part.specs.PaneLine.{paneForm}
+use Rattle.job_glass.specs.GlassLine.{glassForm}
+use Rattle.job_pane.specs.PaneLine.{paneForm}
 use Rattle.job_file.specs.File.{part, trailer, offsets, noTrailer, accepted, refused, partsOutcome, outcomeOf}
-use Rattle.job_part.specs.Arrays.{blankGlass, blankPane, padded}
+use Rattle.job_glass.specs.GlassLine.{blankGlass}
+use Rattle.job_pane.specs.PaneLine.{blankPane}
+use Rattle.job_part.specs.Arrays.{padded}
 use Rattle.job_file.specs.Answer.{accepts, Reads}
-use Rattle.job_part.specs.Steps.{PartWhole}
-use Rattle.job_part.specs.declared.Glass.{Glass}
-use Rattle.job_part.specs.declared.Pane.{Pane}
+use Rattle.job_part.specs.Arrays.{PartWhole}
+use Rattle.job_glass.specs.declared.Glass.{Glass}
+use Rattle.job_pane.specs.declared.Pane.{Pane}
 use Rattle.job_file.specs.declared.Checked.the-variants.{Accepted}
 
 module _ (file : List ℕ) (glass pane end : ℕ) where

@@ -5,9 +5,11 @@ use mathlib.Core.List.{List, []}
 use lib.ListN.{length}
 use Rattle.job_file.specs.File.{Outcome, accepted, refused}
 use Rattle.job_part.specs.Cause.{numberOf}
-use Rattle.job_part.specs.Arrays.{blankGlass, blankPane, padded}
-use Rattle.job_part.specs.declared.Glass.{Glass}
-use Rattle.job_part.specs.declared.Pane.{Pane}
+use Rattle.job_glass.specs.GlassLine.{blankGlass}
+use Rattle.job_pane.specs.PaneLine.{blankPane}
+use Rattle.job_part.specs.Arrays.{padded}
+use Rattle.job_glass.specs.declared.Glass.{Glass}
+use Rattle.job_pane.specs.declared.Pane.{Pane}
 use Rattle.job_file.specs.declared.Checked.{Checked}
 use Rattle.job_file.specs.declared.Checked.the-variants.{Accepted, Refused}
 use Rattle.job_file.specs.declared.Reading.{Reading}

@@ -10,10 +10,10 @@ use lib.ListN.{length, take, drop}
 use Rattle.job_line.specs.Bytes.{if_then_else_, newline, space, letterT, next, after, Found, found, nothing}
 use Rattle.job_line.specs.Number.{digits}
 use Rattle.job_part.specs.Part.{whole, stopped, partLines}
-use Rattle.job_part.specs.GlassLine.{glassForm}
-use Rattle.job_part.specs.PaneLine.{paneForm}
-use Rattle.job_part.specs.declared.Glass.{Glass}
-use Rattle.job_part.specs.declared.Pane.{Pane}
+use Rattle.job_glass.specs.GlassLine.{glassForm}
+use Rattle.job_pane.specs.PaneLine.{paneForm}
+use Rattle.job_glass.specs.declared.Glass.{Glass}
+use Rattle.job_pane.specs.declared.Pane.{Pane}
 
 -- Five digits, any of which may be 0: as many digits as come next, at most five, and no fewer.
 unfoldable pub fiveDigits : List ℕ → Found ℕ

@@ -5,9 +5,9 @@
 mod file;
 mod trailer;
 
+use job_glass::Glass;
+use job_pane::Pane;
 use job_part::Cause;
-use job_part::Glass;
-use job_part::Pane;
 ghost use mathlib.Core.Path.{_≡_};
 ghost use Rattle.job_file.specs.File.{outcomeOf};
 ghost use Rattle.job_file.specs.Answer.{says, answerOf, Reads};

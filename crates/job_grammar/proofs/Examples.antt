@@ -15,8 +15,8 @@ use Rattle.job_line.specs.Line.{numbers, ended, line}
 use Rattle.job_part.specs.Part.{among, judgedEntry, judged, lines, partLines}
 use Rattle.job_file.specs.File.{fiveDigits, offset, trailerRest, trailer, Outcome, accepted, refused, partsOutcome, outcomeOf}
 use Rattle.job_file.specs.Answer.{accepts, answerOf}
-use Rattle.job_part.specs.declared.Glass.{Glass}
-use Rattle.job_part.specs.declared.Pane.{Pane}
+use Rattle.job_glass.specs.declared.Glass.{Glass}
+use Rattle.job_pane.specs.declared.Pane.{Pane}
 
 -- The bytes of a text of plain characters.
 abbrev pub bytesOf : String → List ℕ

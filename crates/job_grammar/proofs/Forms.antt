@@ -10,13 +10,14 @@ use native.Mathlib.Omega.{arith}
 use lib.Dec.{le→leb}
 use lib.ListN.{length, getD, drop, drop-of-length-le}
 use lib.Seq.{drop-cons}
-use Rattle.job_part.specs.GlassLine.{glassForm}
-use Rattle.job_part.specs.PaneLine.{paneForm}
+use Rattle.job_glass.specs.GlassLine.{glassForm}
+use Rattle.job_pane.specs.PaneLine.{paneForm}
 use Rattle.job_part.specs.Part.{whole, partLines}
 use Rattle.job_part.specs.Rules.{Every, PartRules}
-use Rattle.job_part.specs.declared.Glass.{Glass}
-use Rattle.job_part.specs.declared.Pane.{Pane}
-use Rattle.job_part.proofs.Values.{allowed-glass, allowed-pane}
+use Rattle.job_glass.specs.declared.Glass.{Glass}
+use Rattle.job_pane.specs.declared.Pane.{Pane}
+use Rattle.job_glass.proofs.Values.{allowed-glass}
+use Rattle.job_pane.proofs.Values.{allowed-pane}
 use Rattle.job_grammar.specs.Written.{glassNumbers, writtenGlass, paneNumbers, writtenPane, writtenPart}
 use Rattle.job_grammar.proofs.Parts.{Writer, written-part, part-read}
 

@@ -8,8 +8,8 @@ use native.Mathlib.Omega.{arith}
 use lib.ListN.{length, take, drop, length-drop}
 use lib.Seq.{length-take-le}
 use Rattle.job_file.specs.File.{part, accepted, outcomeOf}
-use Rattle.job_part.specs.declared.Glass.{Glass}
-use Rattle.job_part.specs.declared.Pane.{Pane}
+use Rattle.job_glass.specs.declared.Glass.{Glass}
+use Rattle.job_pane.specs.declared.Pane.{Pane}
 use Rattle.job_file.proofs.Accepted.{Accepted, accepted-was, accepted-is, accepted-rules}
 use Rattle.job_grammar.specs.Written.{writtenGlass, writtenPane, writtenPart, writtenTrailer, writtenFile}
 use Rattle.job_grammar.specs.Grammar.{IsWritten, Complete, Sound, Unique}

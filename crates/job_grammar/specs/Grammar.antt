@@ -10,8 +10,8 @@ use mathlib.Core.List.{List}
 use lib.ListN.{length, drop}
 use Rattle.job_file.specs.File.{offsets, trailer, part, accepted, outcomeOf}
 use Rattle.job_file.specs.Rules.{Rules}
-use Rattle.job_part.specs.declared.Glass.{Glass}
-use Rattle.job_part.specs.declared.Pane.{Pane}
+use Rattle.job_glass.specs.declared.Glass.{Glass}
+use Rattle.job_pane.specs.declared.Pane.{Pane}
 use Rattle.job_grammar.specs.Written.{writtenGlass, writtenPane, writtenPart, writtenFile}
 
 -- A file is written for some notes and these lists, within the rules and "at most 65,535 bytes".

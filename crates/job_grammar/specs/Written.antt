@@ -5,8 +5,8 @@ use mathlib.Core.List.{List, [], _∷_, _++_}
 use lib.Dec.{ltb}
 use lib.ListN.{length}
 use Rattle.job_line.specs.Bytes.{if_then_else_, newline, space, digit0, letterG, letterP, letterT}
-use Rattle.job_part.specs.declared.Glass.{Glass}
-use Rattle.job_part.specs.declared.Pane.{Pane}
+use Rattle.job_glass.specs.declared.Glass.{Glass}
+use Rattle.job_pane.specs.declared.Pane.{Pane}
 
 -- The last `count` decimal digits of a number, the most significant first.
 unfoldable pub writtenDigits : ℕ → ℕ → List ℕ

@@ -1,7 +1,7 @@
-pub mod Fields
 pub mod Members
 pub mod Judging
 pub mod Parts
 pub mod Lists
 pub mod Kept
-pub mod Values
+pub mod Laws
+pub mod Tests

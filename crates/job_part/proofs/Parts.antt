@@ -11,7 +11,7 @@ use native.Mathlib.Numerals.{add-one}
 use native.Mathlib.Omega.{arith}
 use lib.ListN.{length, take, drop, set, replicate, length-drop, length-set, length-replicate}
 use lib.Seq.{take-suc-set, drop-set-lt, drop-drop}
-use Rattle.job_part.specs.Steps.{PartWhole}
+use Rattle.job_part.specs.Arrays.{PartWhole}
 use Rattle.job_part.specs.Part.{Form, taken, faulty, judged, whole, stopped, lines, partLines}
 
 module _ {A : Type 0} (form : Form A) (end : ℕ) where

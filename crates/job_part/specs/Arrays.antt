@@ -1,17 +1,24 @@
--- A list of glasses or panes at the front of an array.
-use Prim.Native.Nat.{ℕ, _-_}
+-- What reading a part promises: its entries, at the front of an array.
+use Prim.Native.Nat.{ℕ, _-_, _≤_}
+use mathlib.Core.Path.{_≡_}
 use mathlib.Core.List.{List, _++_}
-use lib.ListN.{length, replicate}
-use Rattle.job_part.specs.declared.Glass.{Glass}
-use Rattle.job_part.specs.declared.Pane.{Pane}
-
--- What an entry past the list holds: zeros.
-abbrev pub blankGlass : Glass
-blankGlass = record { id = 0; kind = 0; thick = 0; w = 0; h = 0; two = 0; four = 0; stock = 0 }
-
-abbrev pub blankPane : Pane
-blankPane = record { id = 0; edges = 0; angle = 0; awning = 0; top = 0; w = 0; h = 0; down = 0; up = 0 }
+use lib.ListN.{length, take, drop, replicate}
+use Rattle.job_part.specs.Part.{Lines, whole, stopped}
+use Rattle.job_part.specs.Cause.{numberOf}
+use Rattle.job_part.specs.declared.PartEnd.{PartEnd}
+use Rattle.job_part.specs.declared.PartEnd.the-variants.{Whole, Stopped}
 
 -- A list at the front of an array of `size` entries, and `blank` in the others.
 abbrev pub padded : {A : Type 0} → ℕ → A → List A → List A
 padded size blank xs = xs ++ replicate (size - length xs) blank
+
+-- A part's n entries stand at the front of an array of this size, with `blank` in the others.
+pub record PartWhole {A : Type 0} (size : ℕ) (blank : A) (d : Lines A) (xs : List A) (n : ℕ) : Type 0 where
+  pub entries : d ≡ whole (take n xs)
+  pub few : n ≤ size
+  pub room : length xs ≡ size
+  pub blanks : drop n xs ≡ replicate (size - n) blank
+
+abbrev pub PartRead : {A : Type 0} → ℕ → A → Lines A → List A → PartEnd → Type 0
+PartRead size blank d xs (Whole n) = PartWhole size blank d xs n
+PartRead size blank d xs (Stopped cause offset) = d ≡ stopped (numberOf cause) offset

@@ -1,0 +1,59 @@
+-- Document 01, "The job file": "Pane: `P id edges angle awning top w h down up`".
+use Prim.Native.Nat.{ℕ, _*_, min, max}
+use mathlib.Core.Bool.{Bool, _&&_, _||_}
+use mathlib.Core.List.{List}
+use lib.Dec.{leb, ltb, eqb}
+use lib.ListN.{getD}
+use Rattle.job_line.specs.Bytes.{letterP}
+use Rattle.job_part.specs.Part.{Form, between}
+use Rattle.job_pane.specs.declared.Pane.{Pane}
+
+-- What the numbers of a line are, in the line's order.
+abbrev pub paneOf : List ℕ → Pane
+paneOf ns = record {
+  id = getD ns 0 0;
+  edges = getD ns 1 0;
+  angle = getD ns 2 0;
+  awning = getD ns 3 0;
+  top = getD ns 4 0;
+  w = getD ns 5 0;
+  h = getD ns 6 0;
+  down = getD ns 7 0;
+  up = getD ns 8 0;
+}
+
+-- "id 1 to 9999; edges 2 or 4; angle 0 to 74 whole degrees from horizontal; awning 0 or 1; top 0 to 99999, height in mm of
+-- the highest part above the floor"
+-- "w and h 1 to 5000 mm, sight size"
+-- "down and up 0 to 1000, ultimate wind pressure in units of 0.01 kPa"
+abbrev pub allowedPane : Pane → Bool
+allowedPane p =
+    between 1 9999 (p .id)
+    && (eqb (p .edges) 2 || eqb (p .edges) 4)
+    && leb (p .angle) 74
+    && leb (p .awning) 1
+    && leb (p .top) 99999
+    && between 1 5000 (p .w)
+    && between 1 5000 (p .h)
+    && leb (p .down) 1000
+    && leb (p .up) 1000
+
+-- Cause 7: "four-edge pane, longer side over 3 times the shorter".
+abbrev pub tooLongPane : Pane → Bool
+tooLongPane p = eqb (p .edges) 4 && ltb (3 * min (p .w) (p .h)) (max (p .w) (p .h))
+
+-- "At most .. 256 pane lines".
+abbrev pub paneForm : Form Pane
+paneForm = record {
+  letter = letterP;
+  count = 9;
+  entry = paneOf;
+  id = λ p. p .id;
+  allowed = allowedPane;
+  tooLong = tooLongPane;
+  most = 256;
+}
+
+-- What an entry of an array past its list holds: zeros.
+abbrev pub blankPane : Pane
+blankPane = record { id = 0; edges = 0; angle = 0; awning = 0; top = 0; w = 0; h = 0; down = 0; up = 0 }

@@ -1,0 +1,21 @@
+-- What the layers above may count on of a pane of an accepted file.
+use Prim.Native.Nat.{_*_, _≤_, min, max}
+use mathlib.Core.Path.{_≡_}
+use mathlib.Core.Logic.{_⊎_}
+use Rattle.job_pane.specs.declared.Pane.{Pane}
+
+-- The allowed values of a pane, as bounds, and the proportion of a four-edge pane.
+pub record PaneValues (p : Pane) : Type 0 where
+  pub id-low : 1 ≤ p .id
+  pub id-high : p .id ≤ 9999
+  pub edges-is : (p .edges ≡ 2) ⊎ (p .edges ≡ 4)
+  pub angle-high : p .angle ≤ 74
+  pub awning-high : p .awning ≤ 1
+  pub top-high : p .top ≤ 99999
+  pub w-low : 1 ≤ p .w
+  pub w-high : p .w ≤ 5000
+  pub h-low : 1 ≤ p .h
+  pub h-high : p .h ≤ 5000
+  pub down-high : p .down ≤ 1000
+  pub up-high : p .up ≤ 1000
+  pub proportion : p .edges ≡ 4 → max (p .w) (p .h) ≤ 3 * min (p .w) (p .h)

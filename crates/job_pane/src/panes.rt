@@ -1,0 +1,149 @@
+// The pane part: specs/PaneLine.antt and specs/Part.antt.
+use crate::Pane;
+use crate::PanePart;
+use crate::sides::longer;
+use crate::sides::shorter;
+use job_line::LineEnd;
+use job_line::read_line;
+use job_part::Cause;
+use job_part::PartEnd;
+use job_part::is_among;
+ghost use mathlib.Core.Path.{_≡_};
+ghost use mathlib.Core.List.{List};
+ghost use Prim.Native.Nat.{ℕ, _+_, _≤_};
+ghost use lib.ListN.{length, take, drop};
+ghost use Rattle.job_pane.specs.PaneLine.{paneOf, allowedPane, tooLongPane, paneForm};
+ghost use Rattle.job_part.specs.Part.{judged, judgedEntry, partLines};
+ghost use Rattle.job_pane.specs.PaneLine.{blankPane};
+ghost use Rattle.job_pane.specs.Steps.{PaneRead};
+ghost use Rattle.job_part.specs.Arrays.{PartRead};
+
+// A pane line and the position behind it, or what is wrong with it.
+pub enum PaneLine {
+    TakenPane(Pane, usize),
+    FaultyPane(Cause),
+}
+
+// An entry of the array past its list.
+pub const NO_PANE: Pane = Pane {
+    id: 0,
+    edges: 0,
+    angle: 0,
+    awning: 0,
+    top: 0,
+    w: 0,
+    h: 0,
+    down: 0,
+    up: 0,
+};
+
+// The pane part, which begins at the file's offset `offset`.
+pub fn read_panes(part: &[u8], offset: usize) -> PanePart
+    requires { ⌜ offset + length (now part) ≤ 65535 ⌝ }
+    ensures { λ r. ⌜ PartRead 256 blankPane (partLines paneForm (offset + length (now (part .entry))) (now (part .entry))) (r .panes) (r .end) ⌝ }
+{
+    let mut panes = [NO_PANE; 256];
+    let mut ids = [0u32; 256];
+    let mut n = 0;
+    let mut at = 0;
+    while at < part.len() {
+        if n == 256 {
+            return PanePart {
+                end: PartEnd::Stopped(Cause::TooManyLines, offset + at),
+                panes,
+            };
+        }
+        match read_pane(part, at, &ids, n) {
+            PaneLine::FaultyPane(cause) => {
+                return PanePart {
+                    end: PartEnd::Stopped(cause, offset + at),
+                    panes,
+                };
+            }
+            PaneLine::TakenPane(pane, next) => {
+                panes[n] = pane;
+                ids[n] = pane.id;
+                n += 1;
+                at = next;
+            }
+        }
+    }
+    PanePart {
+        end: PartEnd::Whole(n),
+        panes,
+    }
+}
+
+// The pane line at a position, behind `count` lines with these ids.
+fn read_pane(part: &[u8], at: usize, ids: &[u32], count: usize) -> PaneLine
+    requires { ⌜ count ≤ length (now ids) ⌝ }
+    ensures { λ r. ⌜ PaneRead (now (part .entry)) (judged paneForm (take count (now (ids .entry))) (drop at (now (part .entry)))) r ⌝ }
+{
+    let line = read_line(part, at, b'P', 9);
+    let end = line.end;
+    match end {
+        LineEnd::NotALine => PaneLine::FaultyPane(Cause::LineForm),
+        LineEnd::Next(next) => {
+            let numbers = line.numbers;
+            judge_pane(pane_of(numbers), next, ids, count)
+        }
+    }
+}
+
+// A pane line that ends at `next`, judged by the causes 5, 6 and 7.
+fn judge_pane(pane: Pane, next: usize, ids: &[u32], count: usize) -> PaneLine
+    requires { ⌜ count ≤ length (now ids) ⌝ }
+    ensures { λ r. ⌜ ((bytes : List ℕ) → next ≤ length bytes → PaneRead bytes (judgedEntry paneForm (take count (now (ids .entry))) pane (drop next bytes)) r) ⌝ }
+{
+    if is_allowed(pane) {
+        if is_among(pane.id, ids, count) {
+            PaneLine::FaultyPane(Cause::RepeatedId)
+        } else if is_too_long(pane) {
+            PaneLine::FaultyPane(Cause::TooLong)
+        } else {
+            PaneLine::TakenPane(pane, next)
+        }
+    } else {
+        PaneLine::FaultyPane(Cause::NumberValue)
+    }
+}
+
+fn pane_of(numbers: [u32; 9]) -> Pane
+    ensures { λ r. ⌜ r ≡ paneOf (take 9 numbers) ⌝ }
+{
+    Pane {
+        id: numbers[0],
+        edges: numbers[1],
+        angle: numbers[2],
+        awning: numbers[3],
+        top: numbers[4],
+        w: numbers[5],
+        h: numbers[6],
+        down: numbers[7],
+        up: numbers[8],
+    }
+}
+
+// Whether each number of a pane is among its allowed values.
+fn is_allowed(p: Pane) -> bool
+    ensures { λ r. ⌜ r ≡ allowedPane p ⌝ }
+{
+    ((1 <= p.id) & (p.id <= 9999))
+        & ((p.edges == 2) | (p.edges == 4))
+        & (p.angle <= 74)
+        & (p.awning <= 1)
+        & (p.top <= 99999)
+        & ((1 <= p.w) & (p.w <= 5000))
+        & ((1 <= p.h) & (p.h <= 5000))
+        & (p.down <= 1000)
+        & (p.up <= 1000)
+}
+
+// Whether a four-edge pane's longer side is over 3 times the shorter (cause 7).
+fn is_too_long(p: Pane) -> bool
+    ensures { λ r. ⌜ r ≡ tooLongPane p ⌝ }
+{
+    let limit = 3 * (shorter(p.w, p.h) as u64);
+    let length = longer(p.w, p.h) as u64;
+    (p.edges == 4) & (limit < length)
+}
