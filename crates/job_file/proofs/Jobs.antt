@@ -4,15 +4,15 @@
 --     refusal-read      a refused file's cause and offset
 use Prim.Native.Nat.{ℕ}
 use mathlib.Core.Path.{_≡_, refl, ap, sym, _∙_}
-use mathlib.Core.List.{List, _++_}
-use lib.ListN.{length, take, replicate}
+use mathlib.Core.List.{List}
+use lib.ListN.{length, take}
 use lib.Seq.{take-at}
 use Rattle.job_part.specs.Cause.{numberOf}
 use Rattle.job_part.specs.Arrays.{padded}
 use Rattle.job_part.specs.declared.Cause.{Cause}
 use Rattle.job_part.proofs.Kept.{clash}
 use Rattle.job_file.specs.File.{Outcome, accepted, refused, outcomeOf}
-use Rattle.job_file.specs.Answer.{accepts, refuses, says, answerOf, Reads}
+use Rattle.job_file.specs.Answer.{refuses, says, answerOf, Reads}
 use Rattle.job_file.specs.Rules.{Rules}
 use Rattle.job_file.specs.declared.Checked.the-variants.{Accepted, Refused}
 use Rattle.job_file.specs.declared.Reading.{Reading}
