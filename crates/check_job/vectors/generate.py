@@ -276,49 +276,33 @@ def offsets():
     refused("pane-offset-at-second-glass", 4, NOTES + glass(501), body + trailer(start, start + len(glass())))
 
 
+# damaged trailers; vwxyz and VWXYZ stand for the digits of its two numbers
+TRAILERS = {
+    "letter-lower-case": "t vwxyz VWXYZ\n", "letter-wrong": "U vwxyz VWXYZ\n", "letter-missing": "vwxyz VWXYZ\n",
+    "first-digit-missing": "T wxyz VWXYZ\n", "second-digit-missing": "T vwxyz WXYZ\n",
+    "four-digits-and-a-space": "T wxyz  VWXYZ\n", "four-digits-and-a-space-at-end": "T vwxyz WXYZ \n",
+    "space-and-four-digits": "T  wxyz VWXYZ\n", "six-digits-first": "T 0vwxyz VWXYZ\n",
+    "six-digits-second": "T vwxyz 0VWXYZ\n", "six-and-four-digits": "T 0vwxyz WXYZ\n",
+    "letter-for-digit": "T vwxyO VWXYZ\n", "letter-for-last-digit": "T vwxyz VWXYl\n",
+    "byte-before-zero": "T /wxyz VWXYZ\n", "byte-after-nine": "T vwxyz :WXYZ\n",
+    "four-digits-and-a-newline-more": "T wxyz VWXYZ\n\n", "four-digits-at-end-and-a-newline-more": "T vwxyz WXYZ\n\n",
+    "without-digits": "T  \n" + "\0" * 10, "minus-sign": "T -wxyz VWXYZ\n", "plus-sign": "T vwxyz +WXYZ\n",
+    "newline-missing": "T vwxyz VWXYZ", "carriage-return": "T vwxyz VWXYZ\r\n", "carriage-return-for-newline": "T vwxyz VWXYZ\r",
+    "two-spaces-behind-letter": "T  vwxyz VWXYZ\n", "two-spaces-between": "T vwxyz  VWXYZ\n",
+    "space-at-end": "T vwxyz VWXYZ \n", "space-for-newline": "T vwxyz VWXYZ ", "tab-behind-letter": "T\tvwxyz VWXYZ\n",
+    "tab-between": "T vwxyz\tVWXYZ\n", "comma-between": "T vwxyz,VWXYZ\n", "newline-between": "T vwxyz\nVWXYZ\n",
+    "newline-more": "T vwxyz VWXYZ\n\n", "third-number": "T vwxyz VWXYZ 0\n", "zero-byte-more": "T vwxyz VWXYZ\n\0",
+    "followed-by-a-line": "T vwxyz VWXYZ\n" + glass().decode(), "missing": "",
+}
+
+
 def trailers():
     body = NOTES + glass() + pane()
-    first, second = b"%05d" % len(NOTES), b"%05d" % len(NOTES + glass())
-    for name, end in {
-        "letter-lower-case": b"t " + first + b" " + second + b"\n",
-        "letter-wrong": b"U " + first + b" " + second + b"\n",
-        "letter-missing": first + b" " + second + b"\n",
-        "first-digit-missing": b"T " + first[1:] + b" " + second + b"\n",
-        "second-digit-missing": b"T " + first + b" " + second[1:] + b"\n",
-        "four-digits-and-a-space": b"T " + first[1:] + b"  " + second + b"\n",
-        "four-digits-and-a-space-at-end": b"T " + first + b" " + second[1:] + b" \n",
-        "space-and-four-digits": b"T  " + first[1:] + b" " + second + b"\n",
-        "six-digits-first": b"T 0" + first + b" " + second + b"\n",
-        "six-digits-second": b"T " + first + b" 0" + second + b"\n",
-        "six-and-four-digits": b"T 0" + first + b" " + second[1:] + b"\n",
-        "letter-for-digit": b"T " + first[:-1] + b"O " + second + b"\n",
-        "letter-for-last-digit": b"T " + first + b" " + second[:-1] + b"l\n",
-        "byte-before-zero": b"T /" + first[1:] + b" " + second + b"\n",
-        "byte-after-nine": b"T " + first + b" :" + second[1:] + b"\n",
-        "four-digits-and-a-newline-more": b"T " + first[1:] + b" " + second + b"\n\n",
-        "four-digits-at-end-and-a-newline-more": b"T " + first + b" " + second[1:] + b"\n\n",
-        "without-digits": b"T  \n" + bytes(10),
-        "minus-sign": b"T -" + first[1:] + b" " + second + b"\n",
-        "plus-sign": b"T " + first + b" +" + second[1:] + b"\n",
-        "newline-missing": b"T " + first + b" " + second,
-        "carriage-return": b"T " + first + b" " + second + b"\r\n",
-        "carriage-return-for-newline": b"T " + first + b" " + second + b"\r",
-        "two-spaces-behind-letter": b"T  " + first + b" " + second + b"\n",
-        "two-spaces-between": b"T " + first + b"  " + second + b"\n",
-        "space-at-end": b"T " + first + b" " + second + b" \n",
-        "space-for-newline": b"T " + first + b" " + second + b" ",
-        "tab-behind-letter": b"T\t" + first + b" " + second + b"\n",
-        "tab-between": b"T " + first + b"\t" + second + b"\n",
-        "comma-between": b"T " + first + b"," + second + b"\n",
-        "newline-between": b"T " + first + b"\n" + second + b"\n",
-        "newline-more": b"T " + first + b" " + second + b"\n\n",
-        "third-number": b"T " + first + b" " + second + b" 0\n",
-        "zero-byte-more": b"T " + first + b" " + second + b"\n\0",
-        "followed-by-a-line": b"T " + first + b" " + second + b"\n" + glass(),
-        "missing": b"",
-    }.items():
+    digits = str.maketrans("vwxyzVWXYZ", "%05d%05d" % (len(NOTES), len(NOTES + glass())))
+    for name, end in TRAILERS.items():
+        end = end.translate(digits).encode()
         refused(f"trailer-{name}", 2, (body + end)[:-14], body + end)
-    whole = b"T " + first + b" " + second + b"\n"
+    whole = trailer(len(NOTES), len(NOTES + glass()))
     refused("trailer-letter-twice", 4, body, body + b"T" + whole)
     refused("trailer-space-in-front", 4, body, body + b" " + whole)
     refused("trailer-newline-in-front", 4, body, body + b"\n" + whole)

@@ -40,6 +40,7 @@ trailerRest glass bytes =
       | nothing ↦ noTrailer
     ]
 
+-- A trailer: `T` and the two offsets.
 unfoldable pub trailer : List ℕ → Trailer
 trailer bytes =
     if eqb (next bytes) letterT

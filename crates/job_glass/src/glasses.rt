@@ -1,4 +1,4 @@
-// The glass part: specs/GlassLine.antt and specs/Part.antt.
+// The glass part: specs/GlassLine.antt, and specs/Part.antt of job_part.
 use crate::Glass;
 use crate::GlassPart;
 use job_line::LineEnd;

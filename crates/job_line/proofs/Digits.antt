@@ -10,7 +10,7 @@
 --     begun-stop, begun-none  no digit next, or none left: the value so far is what was to be read
 use Prim.Native.Nat.{ℕ, zero, suc, _+_, _-_, _*_, _^_, _≤_, _<_}
 use mathlib.Core.Path.{_≡_, refl, sym, _∙_}
-use mathlib.Core.Bool.{Bool, true, false, _&&_}
+use mathlib.Core.Bool.{true, false, and-eq-true-iff}
 use mathlib.Core.List.{List}
 use native.Mathlib.Omega.{arith}
 use lib.Dec.{leb}
@@ -20,15 +20,11 @@ use Rattle.job_line.specs.Bytes.{next, after, Found, found}
 use Rattle.job_line.specs.Number.{isDigit, digits}
 use Rattle.job_line.proofs.Positions.{after-drop, within}
 
-both : (a b : Bool) → a && b ≡ true → (a ≡ true) × (b ≡ true)
-both true b e = (refl, e)
-both false b e = let z : _≡_ {A = ℕ} 0 1 = cc in absurd (omega arith)
-
 pub digit-low : (b : ℕ) → isDigit b ≡ true → 48 ≤ b
-digit-low b e = leb-true 48 b (both (leb 48 b) (leb b 57) e .0)
+digit-low b e = leb-true 48 b (and-eq-true-iff (leb 48 b) (leb b 57) .0 e .0)
 
 pub digit-high : (b : ℕ) → isDigit b ≡ true → b ≤ 57
-digit-high b e = leb-true b 57 (both (leb 48 b) (leb b 57) e .1)
+digit-high b e = leb-true b 57 (and-eq-true-iff (leb 48 b) (leb b 57) .0 e .1)
 
 pub digits-more : (left v : ℕ) (bytes : List ℕ) → 0 < left → isDigit (next bytes) ≡ true →
     digits left v bytes ≡ digits (left - 1) (v * 10 + (next bytes - 48)) (after bytes)

@@ -1,5 +1,6 @@
 -- The number at a position, by the byte `b` that stands there.
---     digit-within   a digit stands within the slice
+--     byte-within    a byte other than 0 stands within the slice
+--     digit-within   so does a digit
 --     number-zero    `0` is a number by itself
 --     number-more    another digit begins a number of at most four digits more
 --     number-none    any other byte begins none

@@ -2,7 +2,6 @@
 --     next-drop     the next byte of the bytes from `at` on is the one at `at`
 --     after-drop    behind it are the bytes from `at + 1` on
 --     within        a position whose next byte is not 0 is within the slice
---     rest-length   how many bytes there are from a position within the slice on
 use Prim.Native.Nat.{ℕ, zero, suc, _+_, _≤_, _<_}
 use mathlib.Core.Path.{_≡_, refl, ap, sym, _∙_}
 use mathlib.Core.List.{List, [], _∷_}

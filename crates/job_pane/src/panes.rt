@@ -1,4 +1,4 @@
-// The pane part: specs/PaneLine.antt and specs/Part.antt.
+// The pane part: specs/PaneLine.antt, and specs/Part.antt of job_part.
 use crate::Pane;
 use crate::PanePart;
 use crate::sides::longer;

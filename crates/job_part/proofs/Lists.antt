@@ -4,15 +4,17 @@
 --     distinct-snoc                  one number more that is none of those before it
 --     distinct-new, distinct-at      a number after others is none of them; two indices hold two numbers
 use Prim.Native.Nat.{ℕ, zero, suc, _<_}
-use mathlib.Core.Path.{_≡_}
+use mathlib.Core.Path.{_≡_, sym}
 use mathlib.Core.Bool.{Bool, true, false, not, _||_}
 use mathlib.Core.List.{List, [], _∷_, _++_}
 use native.Mathlib.Omega.{arith}
 use native.Mathlib.Nat.{le-of-suc-le-suc}
 use lib.Dec.{T, T-not, not-T, eqb, eqb→eq, eqb-refl}
-use lib.ListN.{length, getD}
+use lib.ListN.{length, getD, take}
+use lib.Seq.{take-length}
 use Rattle.job_part.specs.Part.{among}
 use Rattle.job_part.specs.Rules.{Every, Distinct}
+use Rattle.job_part.proofs.Members.{among-append, among-found}
 
 -- A test of every entry, with one entry more, and at an index.
 module _ {A : Type 0} where
@@ -42,10 +44,9 @@ other m n h = not-T (eqb n m) (λ t. T-not (eqb m n) h (rw (eqb→eq n m t) (eqb
 
 among-snoc : (m : ℕ) (ns : List ℕ) (n : ℕ) → T (not (among m ns)) → T (not (eqb m n)) → T (not (among m (ns ++ (n ∷ []))))
 unfolding among
-among-snoc m [] n h k = either-not (eqb n m) false (other m n k) tt
-among-snoc m (p ∷ ns) n h k =
-    let apart = neither (eqb p m) (among m ns) h in
-    either-not (eqb p m) (among m (ns ++ (n ∷ []))) (apart .0) (among-snoc m ns n (apart .1) k)
+among-snoc m ns n h k =
+    rw (among-append m ns (n ∷ []))
+    (either-not (among m ns) (eqb n m || false) h (either-not (eqb n m) false (other m n k) tt))
 
 pub distinct-snoc : (ns : List ℕ) (n : ℕ) → Distinct ns → T (not (among n ns)) → Distinct (ns ++ (n ∷ []))
 unfolding Distinct among
@@ -55,10 +56,9 @@ distinct-snoc (m ∷ ns) n h new =
     (among-snoc m ns n (h .0) (apart .0), distinct-snoc ns n (h .1) (apart .1))
 
 among-at : (n : ℕ) (ns : List ℕ) (i : ℕ) → i < length ns → n ≡ getD ns i 0 → T (not (among n ns)) → ⊥
-unfolding among
-among-at n [] i l e h = omega arith
-among-at n (m ∷ ns) zero l e h = T-not (eqb m n) (neither (eqb m n) (among n ns) h .0) (rw e (eqb-refl m))
-among-at n (m ∷ ns) (suc i) l e h = among-at n ns i (le-of-suc-le-suc l) e (neither (eqb m n) (among n ns) h .1)
+among-at n ns i l e h =
+    let all : among n (take (length ns) ns) ≡ true = among-found n ns i (length ns) l (omega arith) (sym e) in
+    rw (← take-length ns, all) at h
 
 pub distinct-at : (ns : List ℕ) (i j : ℕ) → Distinct ns → i < j → j < length ns → getD ns i 0 ≡ getD ns j 0 → ⊥
 unfolding Distinct
@@ -70,8 +70,9 @@ distinct-at (n ∷ ns) (suc i) (suc j) h l k e =
 
 among-later : (m : ℕ) (ms : List ℕ) (n : ℕ) (ns : List ℕ) → T (not (among m (ms ++ (n ∷ ns)))) → T (not (eqb m n))
 unfolding among
-among-later m [] n ns h = other n m (neither (eqb n m) (among m ns) h .0)
-among-later m (p ∷ ms) n ns h = among-later m ms n ns (neither (eqb p m) (among m (ms ++ (n ∷ ns))) h .1)
+among-later m ms n ns h =
+    let apart = neither (among m ms) (eqb n m || among m ns) (rw (among-append m ms (n ∷ ns)) at h) in
+    other n m (neither (eqb n m) (among m ns) (apart .1) .0)
 
 pub distinct-new : (ms : List ℕ) (n : ℕ) (ns : List ℕ) → Distinct (ms ++ (n ∷ ns)) → T (not (among n ms))
 unfolding Distinct among

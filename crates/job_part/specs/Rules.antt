@@ -6,7 +6,7 @@ use lib.Dec.{T}
 use lib.ListN.{length}
 use Rattle.job_part.specs.Part.{Form, among}
 
--- A test holds of every entry of a list.
+-- A test holds of every entry of a list. `T b` says that the test `b` holds.
 unfoldable pub Every : {A : Type 0} → (A → Bool) → List A → Type 0
 Every test [] = Unit
 Every test (x ∷ xs) = T (test x) × Every test xs
