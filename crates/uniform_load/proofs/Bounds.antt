@@ -1,0 +1,55 @@
+-- No number of the clause is too large, for a pane and a glass of an accepted file.
+--     weight-high                         a row's load times a thickness
+--     max-load-high, min-load-high        a dead load
+--     pressure-high, constant-high        P and K
+--     uniform-values                      what the clause reads of a pane
+use Prim.Native.Nat.{ℕ, _+_, _*_, _≤_, min}
+use native.Mathlib.Nat.{mul-le-mul, max-le}
+use native.Mathlib.Omega.{arith}
+use lib.Dec.{eqb}
+use Rattle.job_glass.specs.Values.{GlassValues}
+use Rattle.job_glass.specs.declared.Glass.{Glass}
+use Rattle.job_pane.specs.Values.{PaneValues}
+use Rattle.job_pane.specs.declared.Pane.{Pane}
+use Rattle.point_load.specs.Support.{spanOf}
+use Rattle.point_load.proofs.Rows.{if-high, thickness-high, nominal-is}
+use Rattle.uniform_load.specs.DeadLoads.{maxDeadLoad, minDeadLoad}
+use Rattle.uniform_load.specs.UniformLoad.{uniformLoadOf, designPressure, spanConstant}
+use Rattle.uniform_load.specs.Values.{UniformValues}
+use Rattle.uniform_load.specs.declared.UniformLoad.{UniformLoad}
+use Rattle.uniform_load.proofs.DeadLoads.{in-place}
+
+module _ {g : Glass} (values : GlassValues g) where
+  thick-high : g .thick ≤ 12
+  thick-high = omega (arith, nominal-is (g .thick) (values .thick-is), thickness-high (g .thick))
+
+  pub weight-high : (row : ℕ) → row ≤ 57 → row * g .thick ≤ 57 * 12
+  weight-high row h = mul-le-mul h thick-high
+
+  pub max-load-high : (row : ℕ) → row ≤ 57 → maxDeadLoad row g ≤ 114
+  max-load-high row h = omega (arith, weight-high row h)
+
+  pub min-load-high : (row : ℕ) → row ≤ 57 → minDeadLoad row g ≤ 114
+  min-load-high row h = omega (arith, weight-high row h)
+
+  pub pressure-high : (load : UniformLoad) → UniformValues load → designPressure load g ≤ 1114
+  pressure-high load h =
+      max-le (omega (arith, max-load-high (load .most) (h .most-high), h .down-high)) (omega (arith, h .up-high))
+
+  pub constant-high : (edges : ℕ) → spanConstant edges g ≤ 99999
+  constant-high edges = if-high (eqb edges 2) (values .two-high) (values .four-high)
+
+pub span-high : {p : Pane} → PaneValues p → spanOf p ≤ 5000
+span-high {p} values = if-high (eqb (p .edges) 2) (values .w-high) (omega (arith, values .w-high))
+
+pub uniform-values : {p : Pane} → PaneValues p → UniformValues (uniformLoadOf p)
+uniform-values {p} values =
+    let rows = in-place (p .angle) (values .angle-high) in
+    let b = span-high values in
+    record {
+      square-high = mul-le-mul b b;
+      most-high = rows .max-high;
+      least-high = rows .min-high;
+      down-high = values .down-high;
+      up-high = values .up-high;
+    }

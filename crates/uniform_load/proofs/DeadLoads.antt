@@ -1,0 +1,47 @@
+-- The rows of Table 6.1 stand 5 degrees apart. One test, computed over the angles 0 to 74, compares the row at or next below
+-- an angle, and the row at or next above it, with the row that the code reads.
+--     InPlace, in-place    an angle's rows, by their place in the table; none is above 0.57 kPa
+use Prim.Native.Nat.{ℕ, _+_, _/_, _≤_}
+use mathlib.Core.Path.{_≡_}
+use mathlib.Core.Bool.{Bool, _&&_}
+use mathlib.Core.List.{List, [], _∷_, map}
+use native.Mathlib.Omega.{arith}
+use lib.Dec.{T, leb, eqb, leb→le, eqb→eq}
+use lib.ListN.{getD}
+use Rattle.job_part.proofs.Tests.{and-iff}
+use Rattle.point_load.proofs.Upto.{upto, at}
+use Rattle.uniform_load.specs.DeadLoads.{deadLoads, maxRow, minRow}
+
+-- The table as the code holds it: maximum and minimum.
+abbrev table : List (List ℕ)
+table = map (λ r. r .maximum ∷ r .minimum ∷ []) deadLoads
+
+abbrev pub maxAt : ℕ → ℕ
+maxAt row = getD (getD table row []) 0 0
+
+abbrev pub minAt : ℕ → ℕ
+minAt row = getD (getD table row []) 1 0
+
+pub record InPlace (angle : ℕ) : Type 0 where
+  pub max-is : maxRow angle ≡ maxAt (angle / 5)
+  pub min-is : minRow angle ≡ minAt ((angle + 4) / 5)
+  pub max-high : maxRow angle ≤ 57
+  pub min-high : minRow angle ≤ 57
+
+abbrev isInPlace : ℕ → Bool
+isInPlace angle =
+    (eqb (maxRow angle) (maxAt (angle / 5)) && eqb (minRow angle) (minAt ((angle + 4) / 5)))
+    && (leb (maxRow angle) 57 && leb (minRow angle) 57)
+
+all-in-place : T (upto 75 isInPlace)
+all-in-place = tt
+
+pub in-place : (angle : ℕ) → angle ≤ 74 → InPlace angle
+in-place angle h =
+    let t = simp and-iff at (at 75 isInPlace all-in-place angle (omega arith)) in
+    record {
+      max-is = eqb→eq _ _ (t .0 .0);
+      min-is = eqb→eq _ _ (t .0 .1);
+      max-high = leb→le _ _ (t .1 .0);
+      min-high = leb→le _ _ (t .1 .1);
+    }

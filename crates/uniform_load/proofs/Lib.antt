@@ -1,0 +1,2 @@
+pub mod DeadLoads
+pub mod Bounds

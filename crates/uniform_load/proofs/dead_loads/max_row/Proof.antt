@@ -1,0 +1,15 @@
+use borrow.Author.Needs.{needs}
+use mathlib.Core.Path.{sym}
+use Rattle.uniform_load.proofs.DeadLoads.{in-place}
+use Rattle.uniform_load.proofs.dead_loads.max_row.Statement.{statement}
+use Rattle.uniform_load.proofs.dead_loads.max_row.Tie as tie
+
+pub max-row-spec : {M : Type 1} → statement M
+max-row-spec =
+    tie.close
+    (tie.spec
+    (λ c. search needs)
+    (λ c. search needs)
+    (λ c. search needs)
+    (λ c. search needs)
+    (λ c. sym (in-place (c .before .args .angle) (c .before .pre) .max-is)))

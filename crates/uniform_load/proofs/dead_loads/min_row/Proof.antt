@@ -1,0 +1,16 @@
+use borrow.Author.Needs.{needs}
+use mathlib.Core.Path.{sym}
+use Rattle.uniform_load.proofs.DeadLoads.{in-place}
+use Rattle.uniform_load.proofs.dead_loads.min_row.Statement.{statement}
+use Rattle.uniform_load.proofs.dead_loads.min_row.Tie as tie
+
+pub min-row-spec : {M : Type 1} → statement M
+min-row-spec =
+    tie.close
+    (tie.spec
+    (λ c. search needs)
+    (λ c. search needs)
+    (λ c. search needs)
+    (λ c. search needs)
+    (λ c. search needs)
+    (λ c. sym (in-place (c .before .args .angle) (c .before .pre) .min-is)))

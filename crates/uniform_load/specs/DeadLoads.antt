@@ -1,0 +1,71 @@
+-- Document 01, "The four clauses", clause 4: the dead loads, "Table 6.1 single glazing, in units of 0.01 kPa".
+use Prim.Native.Nat.{ℕ, _+_, _-_, _*_, _/_}
+use mathlib.Core.List.{List, [], _∷_}
+use lib.Dec.{leb}
+use Rattle.job_line.specs.Bytes.{if_then_else_}
+use Rattle.job_glass.specs.declared.Glass.{Glass}
+
+-- A row of Table 6.1: the angle in degrees, the maximum and the minimum.
+pub record Row : Type 0 where
+  pub angle : ℕ
+  pub maximum : ℕ
+  pub minimum : ℕ
+
+abbrev pub row : ℕ → ℕ → ℕ → Row
+row angle maximum minimum = record { angle = angle; maximum = maximum; minimum = minimum }
+
+-- Table 6.1.
+abbrev pub deadLoads : List Row
+deadLoads =
+    row 0 57 13
+    ∷ row 5 57 13
+    ∷ row 10 56 13
+    ∷ row 15 55 13
+    ∷ row 20 54 12
+    ∷ row 25 52 12
+    ∷ row 30 49 11
+    ∷ row 35 47 11
+    ∷ row 40 44 10
+    ∷ row 45 40 9
+    ∷ row 50 37 9
+    ∷ row 55 33 8
+    ∷ row 60 28 7
+    ∷ row 65 24 6
+    ∷ row 70 19 5
+    ∷ row 75 15 3
+    ∷ []
+
+-- Where a table has no such row; no angle of a pane is outside Table 6.1.
+abbrev pub none : Row
+none = row 0 0 0
+
+-- "the row at or next below the angle": the last such row, of rows by rising angle; `before` is the row before them.
+abbrev pub atOrBelow : ℕ → Row → List Row → Row
+atOrBelow angle before [] = before
+atOrBelow angle before (r ∷ rows) = if leb (r .angle) angle then atOrBelow angle r rows else before
+
+-- "the row at or next above": the first such row.
+abbrev pub atOrAbove : ℕ → List Row → Row
+atOrAbove angle [] = none
+atOrAbove angle (r ∷ rows) = if leb angle (r .angle) then r else atOrAbove angle rows
+
+abbrev pub maxRow : ℕ → ℕ
+maxRow angle = atOrBelow angle none deadLoads .maximum
+
+abbrev pub minRow : ℕ → ℕ
+minRow angle = atOrAbove angle deadLoads .minimum
+
+-- Division, "rounded up" and "rounded down".
+abbrev pub dividedUp : ℕ → ℕ → ℕ
+dividedUp n d = (n + (d - 1)) / d
+
+abbrev pub dividedDown : ℕ → ℕ → ℕ
+dividedDown n d = n / d
+
+-- "Maximum dead load: the row at or next below the angle, times thick, divided by 6, rounded up." From the row's maximum.
+abbrev pub maxDeadLoad : ℕ → Glass → ℕ
+maxDeadLoad maximum g = dividedUp (maximum * g .thick) 6
+
+-- "Minimum: the row at or next above, times thick, divided by 6, rounded down." From the row's minimum.
+abbrev pub minDeadLoad : ℕ → Glass → ℕ
+minDeadLoad minimum g = dividedDown (minimum * g .thick) 6

@@ -1,0 +1,59 @@
+// Clause 4, the uniform load: document 01, "The four clauses"; AS 1288, 6.5.5 and Table 6.1.
+mod dead_loads;
+mod pressure;
+mod wind;
+
+pub use dead_loads::max_dead_load;
+use dead_loads::max_row;
+pub use dead_loads::min_dead_load;
+use dead_loads::min_row;
+use job_glass::Glass;
+use job_pane::Pane;
+use point_load::span;
+use pressure::design_pressure;
+use pressure::span_constant;
+pub use wind::Pressures;
+pub use wind::pressures_of;
+ghost use mathlib.Core.Path.{_≡_};
+ghost use Rattle.job_glass.specs.Values.{GlassValues};
+ghost use Rattle.job_pane.specs.Values.{PaneValues};
+ghost use Rattle.uniform_load.specs.UniformLoad.{uniformLoadOf, overloaded};
+ghost use Rattle.uniform_load.specs.Values.{UniformValues};
+
+// What clause 4 reads of a pane, for every glass that it is tried with.
+pub struct UniformLoad {
+    // supported edges, 2 or 4
+    pub edges: u32,
+    // B times B, in square mm
+    pub square: u64,
+    // the rows of Table 6.1 for the maximum and the minimum, in units of 0.01 kPa
+    pub most: u32,
+    pub least: u32,
+    // wind, in units of 0.01 kPa
+    pub wind: Pressures,
+}
+
+pub fn uniform_load_of(pane: Pane) -> UniformLoad
+    requires { ⌜ PaneValues pane ⌝ }
+    ensures { λ r. ⌜ r ≡ uniformLoadOf pane ⌝ }
+{
+    let b = span(pane) as u64;
+    let wind = pressures_of(pane);
+    UniformLoad {
+        edges: pane.edges,
+        square: b * b,
+        most: max_row(pane.angle),
+        least: min_row(pane.angle),
+        wind,
+    }
+}
+
+// Whether a pane's load is above what its glass may carry.
+pub fn is_overloaded(load: UniformLoad, glass: Glass) -> bool
+    requires { ⌜ UniformValues load × GlassValues glass ⌝ }
+    ensures { λ r. ⌜ r ≡ overloaded load glass ⌝ }
+{
+    let k = span_constant(load.edges, glass) as u64;
+    let p = design_pressure(load, glass) as u64;
+    k * k < load.square * p
+}

@@ -1,0 +1,31 @@
+// The design pressure and the span constant of a pane and a glass: specs/UniformLoad.antt.
+use crate::UniformLoad;
+use crate::dead_loads::max_dead_load;
+use crate::dead_loads::min_dead_load;
+use job_glass::Glass;
+ghost use mathlib.Core.Path.{_≡_};
+ghost use Rattle.job_glass.specs.Values.{GlassValues};
+ghost use Rattle.uniform_load.specs.UniformLoad.{designPressure, spanConstant};
+ghost use Rattle.uniform_load.specs.Values.{UniformValues};
+
+// P, in units of 0.01 kPa.
+pub fn design_pressure(load: UniformLoad, glass: Glass) -> u32
+    requires { ⌜ UniformValues load × GlassValues glass ⌝ }
+    ensures { λ r. ⌜ r ≡ designPressure load glass ⌝ }
+{
+    let wind = load.wind;
+    let downward = max_dead_load(load.most, glass) + wind.down;
+    let held = min_dead_load(load.least, glass);
+    if held + downward < wind.up {
+        wind.up - held
+    } else {
+        downward
+    }
+}
+
+// K, in tenths.
+pub fn span_constant(edges: u32, glass: Glass) -> u32
+    ensures { λ r. ⌜ r ≡ spanConstant edges glass ⌝ }
+{
+    if edges == 2 { glass.two } else { glass.four }
+}
