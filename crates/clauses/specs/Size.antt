@@ -1,0 +1,19 @@
+-- Document 01, "The four clauses": "2. Size."
+use Prim.Native.Nat.{ℕ}
+use mathlib.Core.Bool.{Bool, not, _&&_, _||_}
+use lib.Dec.{leb}
+use Rattle.job_glass.specs.declared.Glass.{Glass}
+use Rattle.job_pane.specs.declared.Pane.{Pane}
+
+-- What a side of a pane takes of a sheet, in mm: the side itself.
+abbrev pub cutSide : ℕ → Glass → ℕ
+cutSide side g = side
+
+-- "The pane must lie within the sheet, w along w or w along h; equal sides pass."
+abbrev pub liesWithin : Pane → Glass → Bool
+liesWithin p g =
+    (leb (cutSide (p .w) g) (g .w) && leb (cutSide (p .h) g) (g .h))
+    || (leb (cutSide (p .w) g) (g .h) && leb (cutSide (p .h) g) (g .w))
+
+abbrev pub sizeFails : Pane → Glass → Bool
+sizeFails p g = not (liesWithin p g)

@@ -1,0 +1,72 @@
+// The verdict of a pane and a glass held as values: specs/Verdict.antt.
+use crate::kind::is_barred;
+use crate::size::is_too_small;
+use job_glass::Glass;
+use job_pane::Pane;
+use point_load::PointLoad;
+use point_load::is_too_wide;
+use point_load::point_load_of;
+use uniform_load::UniformLoad;
+use uniform_load::is_overloaded;
+use uniform_load::uniform_load_of;
+ghost use mathlib.Core.Path.{_≡_};
+ghost use Rattle.job_glass.specs.Values.{GlassValues};
+ghost use Rattle.job_pane.specs.Values.{PaneValues};
+ghost use Rattle.clauses.specs.Verdict.{verdictOf};
+ghost use Rattle.clauses.specs.Loaded.{loadedOf};
+
+// A glass passes for a pane, or fails with the number of the first clause that fails.
+pub enum Verdict {
+    Passes,
+    Fails(u32),
+}
+
+// A pane with what clauses 3 and 4 read of it, worked out once for all the glasses that it is tried with.
+pub struct LoadedPane {
+    pub pane: Pane,
+    pub point: PointLoad,
+    pub uniform: UniformLoad,
+}
+
+pub fn load_pane(pane: Pane) -> LoadedPane
+    requires { ⌜ PaneValues pane ⌝ }
+    ensures { λ r. ⌜ r ≡ loadedOf pane ⌝ }
+{
+    let point = point_load_of(pane);
+    let uniform = uniform_load_of(pane);
+    LoadedPane {
+        pane,
+        point,
+        uniform,
+    }
+}
+
+pub fn judge(pane: Pane, glass: Glass) -> Verdict
+    requires { ⌜ PaneValues pane × GlassValues glass ⌝ }
+    ensures { λ r. ⌜ r ≡ verdictOf pane glass ⌝ }
+{
+    judge_loaded(load_pane(pane), glass)
+}
+
+// The verdict of a pane that was loaded before, and a glass.
+pub fn judge_loaded(loaded: LoadedPane, glass: Glass) -> Verdict
+    requires { ⌜ (loaded ≡ loadedOf (loaded .pane)) × PaneValues (loaded .pane) × GlassValues glass ⌝ }
+    ensures { λ r. ⌜ r ≡ verdictOf (loaded .pane) glass ⌝ }
+{
+    let pane = loaded.pane;
+    if is_barred(pane, glass) {
+        return Verdict::Fails(1);
+    }
+    if is_too_small(pane, glass) {
+        return Verdict::Fails(2);
+    }
+    let point = loaded.point;
+    if is_too_wide(point, glass) {
+        return Verdict::Fails(3);
+    }
+    let uniform = loaded.uniform;
+    if is_overloaded(uniform, glass) {
+        return Verdict::Fails(4);
+    }
+    Verdict::Passes
+}
