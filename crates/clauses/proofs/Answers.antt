@@ -1,7 +1,8 @@
 -- The answer to a question, by what a job that was read has of the two ids.
---     few-panes, few-glasses       the lists are within their arrays
---     pane-values-of, glass-values-of    what was found has the values of an accepted file
---     no-pane, no-glass, judged    each answer
+--     few-glasses, few-panes                   the lists are within their arrays
+--     thePane, theGlass                        what the job has of an id
+--     found-pane-values, found-glass-values    what it has is of an accepted file
+--     no-pane, no-glass, judged                each answer
 use Prim.Native.Nat.{ℕ, _≤_}
 use mathlib.Core.Path.{_≡_, subst}
 use mathlib.Core.List.{List}
@@ -29,33 +30,37 @@ module _ {file : List ℕ} {r : Reading} {glasses panes : ℕ} (job : Job file r
   pub few-panes : panes ≤ 256
   few-panes = omega (arith, job .pane-count, job .rules .of-panes .at-most)
 
+  -- What the job has of an id.
+  abbrev pub thePane : ℕ → Lookup Pane
+  thePane id = withId (λ p. p .id) id (take panes (r .panes))
+
+  abbrev pub theGlass : ℕ → Lookup Glass
+  theGlass id = withId (λ g. g .id) id (take glasses (r .glasses))
+
+  pub found-pane-values : (id : ℕ) (p : Pane) → thePane id ≡ entry p → PaneValues p
+  found-pane-values id p e =
+      let s = with-id-at (λ p. p .id) id blankPane (take panes (r .panes)) p e in
+      subst PaneValues (s .is) (pane-values (job .rules) (s .place) (s .within))
+
+  pub found-glass-values : (id : ℕ) (g : Glass) → theGlass id ≡ entry g → GlassValues g
+  found-glass-values id g e =
+      let s = with-id-at (λ g. g .id) id blankGlass (take glasses (r .glasses)) g e in
+      subst GlassValues (s .is) (glass-values (job .rules) (s .place) (s .within))
+
   module _ (pane glass : ℕ) where
-    abbrev pub thePane : Lookup Pane
-    thePane = withId (λ p. p .id) pane (take panes (r .panes))
-
-    abbrev pub theGlass : Lookup Glass
-    theGlass = withId (λ g. g .id) glass (take glasses (r .glasses))
-
-    pub pane-values-of : (p : Pane) → thePane ≡ entry p → PaneValues p
-    pane-values-of p e =
-        let s = with-id-at (λ p. p .id) pane blankPane (take panes (r .panes)) p e in
-        subst PaneValues (s .is) (pane-values (job .rules) (s .place) (s .within))
-
-    pub glass-values-of : (g : Glass) → theGlass ≡ entry g → GlassValues g
-    glass-values-of g e =
-        let s = with-id-at (λ g. g .id) glass blankGlass (take glasses (r .glasses)) g e in
-        subst GlassValues (s .is) (glass-values (job .rules) (s .place) (s .within))
-
-    pub no-pane : thePane ≡ missing → answerOf (outcomeOf file) pane glass ≡ refuses 10 0
+    pub no-pane : thePane pane ≡ missing → answerOf (outcomeOf file) pane glass ≡ refuses 10 0
     unfolding answerOf
     no-pane e = rw (job .outcome, answerOf, e)
 
-    pub no-glass : (p : Pane) → thePane ≡ entry p → theGlass ≡ missing → answerOf (outcomeOf file) pane glass ≡ refuses 11 0
+    pub no-glass :
+        (p : Pane) →
+        thePane pane ≡ entry p → theGlass glass ≡ missing → answerOf (outcomeOf file) pane glass ≡ refuses 11 0
     unfolding answerOf
     no-glass p e f = rw (job .outcome, answerOf, e, f)
 
     pub judged :
         (p : Pane) (g : Glass) →
-        thePane ≡ entry p → theGlass ≡ entry g → answerOf (outcomeOf file) pane glass ≡ verdictSays (verdictOf p g)
+        thePane pane ≡ entry p → theGlass glass ≡ entry g →
+        answerOf (outcomeOf file) pane glass ≡ verdictSays (verdictOf p g)
     unfolding answerOf
     judged p g e f = rw (job .outcome, answerOf, e, f)

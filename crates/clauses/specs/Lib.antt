@@ -7,3 +7,6 @@ pub mod Lookup
 pub mod Answer
 -- A pane with what the clauses read of it.
 pub mod Loaded
+-- What follows from the definitions.
+pub mod Laws
+pub mod Examples
