@@ -2,7 +2,7 @@
 --     with-id-next     not one of the first, and not the next: not one of one more
 --     with-id-found    the first that has it
 --     with-id-at       the entry that has it stands in the list
-use Prim.Native.Nat.{ℕ, zero, suc, _+_, _≤_, _<_}
+use Prim.Native.Nat.{ℕ, zero, suc, _+_, _<_}
 use mathlib.Core.Path.{_≡_, refl}
 use mathlib.Core.Bool.{Bool, true, false}
 use mathlib.Core.List.{List, [], _∷_}
@@ -13,7 +13,7 @@ use lib.ListN.{length, getD, take}
 use borrow.Author.Tests.{eq-eqb, ne-eqb}
 use Rattle.job_line.specs.Bytes.{if_then_else_}
 use Rattle.job_part.proofs.Kept.{clash}
-use Rattle.clauses.specs.Lookup.{Lookup, entry, missing, withId}
+use Rattle.clauses.specs.Lookup.{entry, missing, withId}
 
 module _ {A : Type 0} (idOf : A → ℕ) (n : ℕ) where
   -- Where no entry has the id, the first does not, and none of the others.

@@ -3,7 +3,7 @@
 --     max-load-high, min-load-high        a dead load
 --     pressure-high, constant-high        P and K
 --     uniform-values                      what the clause reads of a pane
-use Prim.Native.Nat.{ℕ, _+_, _*_, _≤_, min}
+use Prim.Native.Nat.{ℕ, _*_, _≤_}
 use native.Mathlib.Nat.{mul-le-mul, max-le}
 use native.Mathlib.Omega.{arith}
 use lib.Dec.{eqb}

@@ -3,9 +3,7 @@ mod dead_loads;
 mod pressure;
 mod wind;
 
-pub use dead_loads::max_dead_load;
 use dead_loads::max_row;
-pub use dead_loads::min_dead_load;
 use dead_loads::min_row;
 use job_glass::Glass;
 use job_pane::Pane;
@@ -13,7 +11,7 @@ use point_load::span;
 use pressure::design_pressure;
 use pressure::span_constant;
 pub use wind::Pressures;
-pub use wind::pressures_of;
+use wind::pressures_of;
 ghost use mathlib.Core.Path.{_≡_};
 ghost use Rattle.job_glass.specs.Values.{GlassValues};
 ghost use Rattle.job_pane.specs.Values.{PaneValues};

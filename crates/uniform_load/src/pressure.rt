@@ -8,7 +8,8 @@ ghost use Rattle.job_glass.specs.Values.{GlassValues};
 ghost use Rattle.uniform_load.specs.UniformLoad.{designPressure, spanConstant};
 ghost use Rattle.uniform_load.specs.Values.{UniformValues};
 
-// P, in units of 0.01 kPa.
+// P, in units of 0.01 kPa. What the glass's own weight leaves of the uplift is the larger where the uplift is above both
+// together; so no difference is below 0.
 pub fn design_pressure(load: UniformLoad, glass: Glass) -> u32
     requires { ⌜ UniformValues load × GlassValues glass ⌝ }
     ensures { λ r. ⌜ r ≡ designPressure load glass ⌝ }

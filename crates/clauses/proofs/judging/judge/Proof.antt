@@ -1,5 +1,5 @@
 use borrow.Author.Needs.{needs}
-use mathlib.Core.Path.{_≡_, ap, sym, _∙_}
+use mathlib.Core.Path.{ap, sym, _∙_}
 use Rattle.clauses.specs.Loaded.{loadedOf}
 use Rattle.clauses.specs.declared.judging.LoadedPane.{LoadedPane}
 use Rattle.clauses.proofs.judging.judge.Statement.{statement}
