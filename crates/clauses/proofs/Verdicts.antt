@@ -7,10 +7,11 @@ use mathlib.Core.Bool.{true, false}
 use Rattle.job_glass.specs.declared.Glass.{Glass}
 use Rattle.job_pane.specs.Values.{PaneValues}
 use Rattle.job_pane.specs.declared.Pane.{Pane}
-use Rattle.point_load.specs.PointLoad.{tooWide, pointLoadFails}
+use Rattle.point_load.specs.PointLoad.{pointLoadFails}
+use Rattle.point_load.specs.Steps.{tooWide}
 use Rattle.point_load.proofs.Rows.{column-high}
-use Rattle.uniform_load.specs.UniformLoad.{overloaded, uniformLoadFails}
-use Rattle.uniform_load.specs.Values.{UniformValues}
+use Rattle.uniform_load.specs.UniformLoad.{uniformLoadFails}
+use Rattle.uniform_load.specs.Steps.{overloaded, UniformValues}
 use Rattle.uniform_load.proofs.Bounds.{uniform-values}
 use Rattle.clauses.specs.Kind.{kindFails}
 use Rattle.clauses.specs.Size.{sizeFails}

@@ -9,7 +9,7 @@ use Rattle.point_load.specs.LiveLoad.{liveLoad}
 use Rattle.point_load.specs.Support.{AR=2, AR=3, columnOf, spanOf}
 use Rattle.point_load.specs.Spans.{maxSpan}
 use Rattle.uniform_load.specs.DeadLoads.{maxRow, minRow, maxDeadLoad, minDeadLoad}
-use Rattle.uniform_load.specs.UniformLoad.{uniformLoadOf, designPressure, uniformLoadFails}
+use Rattle.uniform_load.specs.UniformLoad.{designPressure, uniformLoadFails}
 use Rattle.clauses.specs.Kind.{kindFails}
 
 -- A pane and a glass of ordinary values, but for those that an example names.
@@ -73,8 +73,8 @@ pub record ExampleF (thick8 : Glass) : Type 0 where
 -- "(g) B 100, P 144: K 1200 passes, K 1199 fails." With 6 mm glass laid flat the maximum dead load is 57, so down is 87.
 pub record ExampleG (p : Pane) (k1200 k1199 : Glass) : Type 0 where
   pub span : spanOf p ≡ 100
-  pub pressure : designPressure (uniformLoadOf p) k1200 ≡ 144
-  pub pressure-too : designPressure (uniformLoadOf p) k1199 ≡ 144
+  pub pressure : designPressure p k1200 ≡ 144
+  pub pressure-too : designPressure p k1199 ≡ 144
   pub passes : uniformLoadFails p k1200 ≡ false
   pub fails : uniformLoadFails p k1199 ≡ true
 

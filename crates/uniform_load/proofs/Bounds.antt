@@ -14,8 +14,8 @@ use Rattle.job_pane.specs.declared.Pane.{Pane}
 use Rattle.point_load.specs.Support.{spanOf}
 use Rattle.point_load.proofs.Rows.{if-high, thickness-high, nominal-is}
 use Rattle.uniform_load.specs.DeadLoads.{maxDeadLoad, minDeadLoad}
-use Rattle.uniform_load.specs.UniformLoad.{uniformLoadOf, designPressure, spanConstant}
-use Rattle.uniform_load.specs.Values.{UniformValues}
+use Rattle.uniform_load.specs.UniformLoad.{spanConstant}
+use Rattle.uniform_load.specs.Steps.{uniformLoadOf, pressureOn, UniformValues}
 use Rattle.uniform_load.specs.declared.UniformLoad.{UniformLoad}
 use Rattle.uniform_load.proofs.DeadLoads.{in-place}
 
@@ -32,7 +32,7 @@ module _ {g : Glass} (values : GlassValues g) where
   pub min-load-high : (row : ℕ) → row ≤ 57 → minDeadLoad row g ≤ 114
   min-load-high row h = omega (arith, weight-high row h)
 
-  pub pressure-high : (load : UniformLoad) → UniformValues load → designPressure load g ≤ 1114
+  pub pressure-high : (load : UniformLoad) → UniformValues load → pressureOn load g ≤ 1114
   pressure-high load h =
       max-le (omega (arith, max-load-high (load .most) (h .most-high), h .down-high)) (omega (arith, h .up-high))
 

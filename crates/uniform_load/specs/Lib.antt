@@ -2,5 +2,5 @@
 pub mod DeadLoads
 pub mod Wind
 pub mod UniformLoad
--- What a pane of an accepted file gives.
-pub mod Values
+-- What the code promises, step by step.
+pub mod Steps

@@ -8,32 +8,26 @@ use Rattle.job_pane.specs.declared.Pane.{Pane}
 use Rattle.point_load.specs.Support.{spanOf}
 use Rattle.uniform_load.specs.DeadLoads.{maxRow, minRow, maxDeadLoad, minDeadLoad}
 use Rattle.uniform_load.specs.Wind.{pressuresOf}
-use Rattle.uniform_load.specs.declared.UniformLoad.{UniformLoad}
+use Rattle.uniform_load.specs.declared.wind.Pressures.{Pressures}
 
--- What the clause reads of a pane: its edges, B times B, the two rows of Table 6.1 and the wind.
-abbrev pub uniformLoadOf : Pane → UniformLoad
-uniformLoadOf p = record {
-  edges = p .edges;
-  square = spanOf p * spanOf p;
-  most = maxRow (p .angle);
-  least = minRow (p .angle);
-  wind = pressuresOf p;
-}
+-- "P is the larger of (maximum + down) and (up − minimum, or 0 if negative)." The difference of two numbers here is 0 where it
+-- would be negative.
+abbrev pub governing : (maximum minimum : ℕ) → Pressures → ℕ
+governing maximum minimum wind = max (maximum + wind .down) (wind .up - minimum)
 
--- "P is the larger of (maximum + down) and (up − minimum, or 0 if negative)." A difference of numbers here is never below 0.
-abbrev pub designPressure : UniformLoad → Glass → ℕ
-designPressure load g =
-    max (maxDeadLoad (load .most) g + load .wind .down) (load .wind .up - minDeadLoad (load .least) g)
+-- P, from the dead loads of the glass at the pane's angle and the wind on the pane.
+abbrev pub designPressure : Pane → Glass → ℕ
+designPressure p g =
+    governing (maxDeadLoad (maxRow (p .angle)) g) (minDeadLoad (minRow (p .angle)) g) (pressuresOf p)
 
 -- "K the constant "two" or "four" by edges".
 abbrev pub spanConstant : ℕ → Glass → ℕ
 spanConstant edges g = if eqb edges 2 then g .two else g .four
 
 -- "It fails when B times B times P exceeds K times K".
-abbrev pub overloaded : UniformLoad → Glass → Bool
-overloaded load g =
-    ltb (spanConstant (load .edges) g * spanConstant (load .edges) g) (load .square * designPressure load g)
-
--- Clause 4 fails for a pane and a glass.
 abbrev pub uniformLoadFails : Pane → Glass → Bool
-uniformLoadFails p g = overloaded (uniformLoadOf p) g
+uniformLoadFails p g =
+    let B : ℕ = spanOf p in
+    let P : ℕ = designPressure p g in
+    let K : ℕ = spanConstant (p .edges) g in
+    ltb (K * K) (B * B * P)

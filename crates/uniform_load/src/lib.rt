@@ -15,8 +15,7 @@ use wind::pressures_of;
 ghost use mathlib.Core.Path.{_≡_};
 ghost use Rattle.job_glass.specs.Values.{GlassValues};
 ghost use Rattle.job_pane.specs.Values.{PaneValues};
-ghost use Rattle.uniform_load.specs.UniformLoad.{uniformLoadOf, overloaded};
-ghost use Rattle.uniform_load.specs.Values.{UniformValues};
+ghost use Rattle.uniform_load.specs.Steps.{uniformLoadOf, overloaded, UniformValues};
 
 // What clause 4 reads of a pane, for every glass that it is tried with.
 pub struct UniformLoad {

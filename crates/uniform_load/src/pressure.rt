@@ -5,14 +5,14 @@ use crate::dead_loads::min_dead_load;
 use job_glass::Glass;
 ghost use mathlib.Core.Path.{_≡_};
 ghost use Rattle.job_glass.specs.Values.{GlassValues};
-ghost use Rattle.uniform_load.specs.UniformLoad.{designPressure, spanConstant};
-ghost use Rattle.uniform_load.specs.Values.{UniformValues};
+ghost use Rattle.uniform_load.specs.UniformLoad.{spanConstant};
+ghost use Rattle.uniform_load.specs.Steps.{pressureOn, UniformValues};
 
 // P, in units of 0.01 kPa. What the glass's own weight leaves of the uplift is the larger where the uplift is above both
 // together; so no difference is below 0.
 pub fn design_pressure(load: UniformLoad, glass: Glass) -> u32
     requires { ⌜ UniformValues load × GlassValues glass ⌝ }
-    ensures { λ r. ⌜ r ≡ designPressure load glass ⌝ }
+    ensures { λ r. ⌜ r ≡ pressureOn load glass ⌝ }
 {
     let wind = load.wind;
     let downward = max_dead_load(load.most, glass) + wind.down;
