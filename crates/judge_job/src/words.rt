@@ -1,0 +1,49 @@
+// What is said to people, on standard error: an answer in plain words, with the number and the name of the clause.
+use clauses::Answer;
+use clauses::Verdict;
+use libc::STDERR_FILENO;
+
+// Why the glass may not be used; nothing where it may.
+pub(crate) fn explain(answer: Answer) {
+    match answer {
+        Answer::Judged(verdict) => match verdict {
+            Verdict::Passes => {}
+            Verdict::Fails(clause) => explain_clause(clause),
+        },
+        Answer::Refused {
+            cause: _,
+            offset: _,
+        } => say(
+            b"the file is refused, so nothing of it is judged; check_job says what is wrong with it and where\n",
+        ),
+        Answer::NoPane => say(b"number 10: no pane of the file has that id\n"),
+        Answer::NoGlass => say(b"number 11: no glass of the file has that id\n"),
+    }
+}
+
+fn explain_clause(clause: u32) {
+    match clause {
+        1 => say(
+            b"clause 1, kind: the pane's highest part is 3000 mm or more above the floor, where toughened glass must be laminated; take a laminated glass\n",
+        ),
+        2 => say(
+            b"clause 2, size: the pane does not lie within the sheet, neither upright nor turned; take a larger sheet\n",
+        ),
+        3 => say(
+            b"clause 3, point load: the span is too long for this kind and thickness to bear a person's weight; take thicker or stronger glass, or divide the pane\n",
+        ),
+        _ => say(
+            b"clause 4, uniform load: the span is too long for the wind and the glass's own weight; take thicker or stronger glass, or divide the pane\n",
+        ),
+    }
+}
+
+pub(crate) fn say_usage() {
+    say(
+        b"usage: judge_job FILE [PANE GLASS].. [FILE [PANE GLASS]..]..; FILE alone asks for every pane with every glass\n",
+    );
+}
+
+fn say(text: &[u8]) {
+    io::write_all(STDERR_FILENO, text);
+}

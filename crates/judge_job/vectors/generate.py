@@ -1,0 +1,563 @@
+"""Writes the vectors of judge_job: the job files in data/, the questions in args and their answers in stdout.
+
+Run `python3 generate.py`. Each answer is stated here from document 01, "The four clauses": a pane and a glass are made so that
+the clause named is the first against them, or none is. Nothing is written where clauses.py, a second reading of the paper,
+says otherwise, or where reader.py, the second reader of check_job's vectors, reads a file otherwise.
+"""
+import itertools
+import math
+import pathlib
+import shutil
+import sys
+
+sys.dont_write_bytecode = True
+CRATE = pathlib.Path(__file__).resolve().parent.parent
+sys.path.append(str(CRATE.parent / "check_job" / "vectors"))
+import clauses
+import reader
+
+KINDS = (1, 2, 3, 4)
+THICK = (6, 8, 10, 12)
+LIVE_LOADS = ("0.5", "1.1", "1.8")
+COLUMNS = ("AR=1", "AR=2", "AR=3", "two")
+MOST = 99999
+
+# Tables 6.2 to 6.5 by column. The twelve spans are those of 0.5, 1.1 and 1.8 kN, each for 6, 8, 10 and 12 mm.
+SPANS = {
+    (1, "AR=1"): (400, 1400, 2000, 2000, 0, 250, 550, 1200, 0, 0, 0, 400),
+    (1, "AR=2"): (250, 850, 1900, 2000, 0, 0, 350, 825, 0, 0, 0, 275),
+    (1, "AR=3"): (250, 800, 1700, 1900, 0, 0, 330, 750, 0, 0, 0, 0),
+    (1, "two"): (0, 0, 250, 700, 0, 0, 0, 0, 0, 0, 0, 0),
+    (2, "AR=1"): (2000, 2000, 2000, 2000, 400, 1450, 2000, 2000, 0, 450, 1200, 2000),
+    (2, "AR=2"): (1500, 1800, 2000, 2000, 250, 950, 2000, 2000, 0, 300, 800, 1950),
+    (2, "AR=3"): (1200, 1600, 1800, 1950, 250, 900, 2000, 2000, 0, 300, 750, 1850),
+    (2, "two"): (0, 800, 1600, 1950, 0, 0, 250, 800, 0, 0, 0, 0),
+    (3, "AR=1"): (2000, 2000, 2000, 2000, 1100, 2000, 2000, 2000, 350, 1400, 2000, 2000),
+    (3, "AR=2"): (2000, 2000, 2000, 2000, 725, 2000, 2000, 2000, 0, 925, 2000, 2000),
+    (3, "AR=3"): (2000, 2000, 2000, 2000, 700, 2000, 2000, 2000, 0, 900, 2000, 2000),
+    (3, "two"): (650, 1800, 2000, 2000, 0, 250, 850, 1900, 0, 0, 0, 700),
+    (4, "AR=1"): (2000, 2000, 2000, 2000, 1300, 2000, 2000, 2000, 400, 1400, 2000, 2000),
+    (4, "AR=2"): (2000, 2000, 2000, 2000, 850, 2000, 2000, 2000, 0, 925, 2000, 2000),
+    (4, "AR=3"): (2000, 2000, 2000, 2000, 800, 2000, 2000, 2000, 0, 900, 2000, 2000),
+    (4, "two"): (700, 1800, 2000, 2000, 0, 400, 1000, 1950, 0, 0, 300, 700),
+}
+
+# The maximum dead load of 6, 8, 10 and 12 mm, rounded up, from a row's angle to the one before the next row.
+MAXIMUM = {
+    (0, 4): (57, 76, 95, 114), (5, 9): (57, 76, 95, 114), (10, 14): (56, 75, 94, 112), (15, 19): (55, 74, 92, 110),
+    (20, 24): (54, 72, 90, 108), (25, 29): (52, 70, 87, 104), (30, 34): (49, 66, 82, 98), (35, 39): (47, 63, 79, 94),
+    (40, 44): (44, 59, 74, 88), (45, 49): (40, 54, 67, 80), (50, 54): (37, 50, 62, 74), (55, 59): (33, 44, 55, 66),
+    (60, 64): (28, 38, 47, 56), (65, 69): (24, 32, 40, 48), (70, 74): (19, 26, 32, 38),
+}
+# The minimum, rounded down, from the angle behind a row's to the next row's.
+MINIMUM = {
+    (0, 0): (13, 17, 21, 26), (1, 5): (13, 17, 21, 26), (6, 10): (13, 17, 21, 26), (11, 15): (13, 17, 21, 26),
+    (16, 20): (12, 16, 20, 24), (21, 25): (12, 16, 20, 24), (26, 30): (11, 14, 18, 22), (31, 35): (11, 14, 18, 22),
+    (36, 40): (10, 13, 16, 20), (41, 45): (9, 12, 15, 18), (46, 50): (9, 12, 15, 18), (51, 55): (8, 10, 13, 16),
+    (56, 60): (7, 9, 11, 14), (61, 65): (6, 8, 10, 12), (66, 70): (5, 6, 8, 10), (71, 74): (3, 4, 5, 6),
+}
+
+FILES = {}
+RUN = []
+JOBS = {}
+
+
+def pane(edges=4, angle=45, awning=0, top=2500, w=200, h=200, down=0, up=0):
+    """A pane that every kind and thickness serves, unless the numbers given stand against it."""
+    return clauses.Pane(edges, angle, awning, top, w, h, down, up)
+
+
+def glass(kind=3, thick=10, w=9999, h=9999, two=MOST, four=MOST, stock=1):
+    return clauses.Glass(kind, thick, w, h, two, four, stock)
+
+
+def lines(letter, entries):
+    return "".join(" ".join(map(str, (letter, id, *numbers))) + "\n" for id, numbers in entries).encode()
+
+
+def file_of(notes, glasses, panes):
+    """The bytes of a job with these notes, glasses and panes, each of which comes with its id."""
+    notes, glasses, panes = notes.encode(), lines("G", glasses), lines("P", panes)
+    return notes + glasses + panes + b"T %05d %05d\n" % (len(notes), len(notes + glasses))
+
+
+def put(name, answer, file):
+    if name in FILES:
+        raise SystemExit(f"{name}: twice")
+    if reader.check(file) != answer:
+        raise SystemExit(f"{name}: stated {answer}, but reader.py answers {reader.check(file)}")
+    FILES[name] = file
+
+
+def spelled(verdict):
+    return f"fails {verdict}" if verdict else "passes"
+
+
+def entries(part, make):
+    """The numbers of each line by its id."""
+    return {int(line.split()[1]): make(*map(int, line.split()[2:])) for line in part.splitlines()}
+
+
+def second_answers(file, ids):
+    """The answers of the second readings to these ids, two by two, or to every pair."""
+    answer = reader.check(file)
+    if answer.startswith("refused"):
+        return [f"{p} {g} {answer}" for p, g in zip(ids[::2], ids[1::2])] if ids else [answer]
+    glass_at, pane_at = int(file[-12:-7]), int(file[-6:-1])
+    glasses = entries(file[glass_at:pane_at], clauses.Glass)
+    panes = entries(file[pane_at:-14], clauses.Pane)
+    questions = zip(ids[::2], ids[1::2]) if ids else [(p, g) for p in panes for g in glasses]
+    return [
+        f"{p} {g} " + ("refused 10 0" if p not in panes else "refused 11 0" if g not in glasses
+                       else spelled(clauses.verdict(panes[p], glasses[g])))
+        for p, g in questions
+    ]
+
+
+def run(name, ids, answers):
+    """A name with ids behind it, and the lines that answer them."""
+    seconds = second_answers(FILES[name], ids)
+    for stated, second in zip(answers, seconds, strict=True):
+        if stated != second:
+            raise SystemExit(f"{name}: stated {stated}, but the second readings {second}")
+    run_words(name, ids, answers)
+
+
+def run_words(name, words, answers):
+    """The same where the words are not all ids, or the name is not a file's."""
+    RUN.append(([name, *map(str, words)], [f"{name}: {answer}" for answer in answers]))
+
+
+class Job:
+    """A job that grows by questions. Its panes have the ids from 1 on, its glasses those from 501 on."""
+
+    def __init__(self, name):
+        self.name, self.panes, self.glasses, self.verdicts = name, {}, {}, {}
+
+    def has_room(self, pane, glass):
+        return (pane in self.panes or len(self.panes) < 256) and (glass in self.glasses or len(self.glasses) < 64)
+
+    def ask(self, verdict, pane, glass):
+        found = clauses.verdict(pane, glass)
+        if found != verdict:
+            raise SystemExit(f"{self.name}: stated {spelled(verdict)}, but clauses.py {spelled(found)}: {pane}, {glass}")
+        pane_id = self.panes.setdefault(pane, 1 + len(self.panes))
+        glass_id = self.glasses.setdefault(glass, 501 + len(self.glasses))
+        self.verdicts[pane_id, glass_id] = verdict
+
+    def put(self):
+        """Runs the file with the ids of its questions, or with none where every pair is one."""
+        glasses, panes = [(id, it) for it, id in self.glasses.items()], [(id, it) for it, id in self.panes.items()]
+        put(self.name, f"accepted {len(glasses)} {len(panes)}", file_of(self.name + "\n", glasses, panes))
+        asked = sorted(self.verdicts)
+        ids = [] if len(asked) == len(glasses) * len(panes) else [id for question in asked for id in question]
+        run(self.name, ids, [f"{p} {g} {spelled(self.verdicts[p, g])}" for p, g in asked])
+
+
+def ask(group, verdict, pane, glass):
+    """Puts a question in the last job of the group, or in a new one where that is full."""
+    jobs = JOBS.setdefault(group, [])
+    if not jobs or not jobs[-1].has_room(pane, glass):
+        jobs.append(Job(f"{group}-{len(jobs) + 1}.job" if jobs else f"{group}.job"))
+    jobs[-1].ask(verdict, pane, glass)
+
+
+def by_edges(edges, constant, other, **numbers):
+    """A glass with this constant for so many edges, and the other one for a pane of the other edges."""
+    two, four = (constant, other) if edges == 2 else (other, constant)
+    return glass(two=two, four=four, **numbers)
+
+
+def pin(group, pressure, pane, **numbers):
+    """P is this and nothing else: the least constant that bears it does not bear one more, and one below it bears one less.
+    The constant for other edges would turn each answer."""
+    span = pane.w if pane.edges == 2 else min(pane.w, pane.h)
+    least = math.isqrt(span * span * pressure - 1) + 1
+    if not (least ** 2 < span ** 2 * (pressure + 1) and (least - 1) ** 2 >= span ** 2 * (pressure - 1)):
+        raise SystemExit(f"{group}: a span of {span} does not tell P {pressure} from its neighbours")
+    ask(group, 0, pane, by_edges(pane.edges, least, 1, **numbers))
+    ask(group, 4, pane, by_edges(pane.edges, least - 1, MOST, **numbers))
+
+
+# the slope and the place that give each live load
+LOADED = {"0.5": dict(angle=45), "1.1": dict(angle=10), "1.8": dict(angle=45, awning=1)}
+
+
+def rows():
+    """Each kind, live load and thickness with its spans by column."""
+    for kind in KINDS:
+        for row, (load, thick) in enumerate((load, thick) for load in LIVE_LOADS for thick in THICK):
+            yield kind, load, thick, [SPANS[kind, column][row] for column in COLUMNS]
+
+
+def shapes(column, span):
+    """Panes of this span that read this column: two at its ends, one with w shorter and one with h shorter."""
+    if column == "AR=1":
+        return [dict(w=span, h=span)]
+    if column == "AR=2":
+        return [dict(w=span, h=2 * span), dict(w=span + 1, h=span)]
+    if column == "AR=3":
+        return [dict(w=span, h=min(3 * span, 5000)), dict(w=2 * span + 1, h=span)]
+    return [dict(edges=2, w=span, h=5000), dict(edges=2, w=span, h=1)]
+
+
+def spans():
+    """Each of the 192 spans: at the entry, and a millimetre above. A dash lets no span pass."""
+    for kind, load, thick, entries in rows():
+        group, sheet, loaded = f"spans-{kind}-{thick}", glass(kind, thick), LOADED[load]
+        for column, entry in zip(COLUMNS, entries):
+            for shape in shapes(column, entry) if entry else []:
+                ask(group, 0, pane(**loaded, **shape), sheet)
+            for shape in shapes(column, entry + 1):
+                ask(group, 3, pane(**loaded, **shape), sheet)
+
+
+def columns():
+    """Of each row, the sides at which one column ends and the next begins, where their spans differ."""
+    for kind, load, thick, (first, second, third, two) in rows():
+        group, sheet, loaded = f"spans-{kind}-{thick}", glass(kind, thick), LOADED[load]
+        if first > second:
+            ask(group, 0, pane(w=first, h=first, **loaded), sheet)
+            ask(group, 3, pane(w=first, h=first + 1, **loaded), sheet)
+            ask(group, 3, pane(w=first + 1, h=first, **loaded), sheet)
+        if second > third:
+            ask(group, 0, pane(w=second, h=2 * second, **loaded), sheet)
+            ask(group, 0, pane(w=2 * second, h=second, **loaded), sheet)
+            ask(group, 3, pane(w=second, h=2 * second + 1, **loaded), sheet)
+            ask(group, 3, pane(w=2 * second + 1, h=second, **loaded), sheet)
+        if third > two:
+            longest = min(3 * third, 5000)
+            ask(group, 0, pane(w=third, h=longest, **loaded), sheet)
+            ask(group, 0, pane(w=longest, h=third, **loaded), sheet)
+            ask(group, 3, pane(2, w=third, h=longest, **loaded), sheet)
+        if two:
+            # the span is w, and not the shorter side
+            ask(group, 0, pane(2, w=two, h=two, **loaded), sheet)
+            ask(group, 0, pane(2, w=two, h=two + 1, **loaded), sheet)
+            ask(group, 3, pane(2, w=two + 1, h=two, **loaded), sheet)
+
+
+# sides of a four-edge pane of the span 200, and of a two-edge pane of the span 240
+FOUR_EDGES = [(200, 200), (200, 390), (390, 200), (200, 600), (600, 200)]
+TWO_EDGES = [(240, 700), (240, 70), (240, 240)]
+# for each table of dead loads the kinds of 6, 8, 10 and 12 mm, with four edges and with two
+KINDS_USED = {"maximum": {4: (2, 1, 3, 4), 2: (3, 4, 3, 4)}, "minimum": {4: (4, 3, 1, 2), 2: (4, 3, 4, 3)}}
+
+
+def dead_loads():
+    """The two dead loads of every angle and thickness. The wind makes P the same for all of a thickness."""
+    for table, is_up in (MAXIMUM, False), (MINIMUM, True):
+        for (first, last), loads in table.items():
+            for angle in range(first, last + 1):
+                for row, (thick, load, pressure) in enumerate(zip(THICK, loads, (150, 173, 211, 250))):
+                    wind = dict(down=angle % 30, up=pressure + load) if is_up else dict(down=pressure - load, up=angle)
+                    # under 1.1 kN, 6 mm spans nothing with two edges, and 8 mm of kind 1 nothing but with equal sides
+                    edges = 2 if angle % 2 and not (angle < 30 and thick == 6) else 4
+                    name = "minimum" if is_up else "maximum"
+                    kind = KINDS_USED[name][edges][row]
+                    w, h = TWO_EDGES[angle % 3] if edges == 2 else FOUR_EDGES[angle % 5]
+                    if kind == 1 and angle < 30 and thick == 8:
+                        w, h = 200, 200
+                    it = pane(edges, angle, w=w, h=h, **wind)
+                    pin(f"{name}-{thick}-edges-{edges}", pressure, it, kind=kind, thick=thick)
+
+
+def kinds():
+    """Clause 1, which stands against monolithic glass alone."""
+    for kind in KINDS:
+        for top in 0, 1, 2999, 3000, 3001, 30000, MOST:
+            ask("kind", 1 if kind == 4 and top >= 3000 else 0, pane(top=top), glass(kind, 12))
+        for angle, awning in (0, 0), (0, 1), (74, 0), (74, 1):
+            ask("kind", 0, pane(angle=angle, awning=awning, top=2999), glass(kind, 12))
+            ask("kind", 1 if kind == 4 else 0, pane(angle=angle, awning=awning, top=3000), glass(kind, 12))
+
+
+# sheets for a pane of 300 by 500, and whether it lies within
+SHEETS = [
+    (300, 500, True), (500, 300, True), (301, 501, True), (500, 500, True), (300, 9999, True), (9999, 300, True),
+    (299, 500, False), (300, 499, False), (500, 299, False), (499, 300, False), (499, 499, False), (299, 9999, False),
+    (9999, 299, False), (299, 501, False), (501, 299, False), (301, 499, False), (499, 301, False), (1, 1, False),
+    (300, 300, False), (499, 9999, True), (9999, 499, True), (400, 400, False),
+]
+
+
+def sizes():
+    """Clause 2, upright and turned; the sheet may be turned with two edges too."""
+    for edges in 2, 4:
+        for w, h, is_within in SHEETS:
+            ask("size", 0 if is_within else 2, pane(edges, w=300, h=500), glass(w=w, h=h))
+            ask("size", 0 if is_within else 2, pane(edges, w=500, h=300), glass(w=w, h=h))
+        for w, h, verdict in (400, 400, 0), (399, 400, 2), (400, 399, 2), (399, 399, 2), (399, 9999, 2), (9999, 399, 2):
+            ask("size-equal", verdict, pane(edges, w=400, h=400), glass(w=w, h=h))
+        for w, h in (1, 1), (1, 9999), (9999, 1), (9999, 9999):
+            ask("size-least", 0, pane(edges, w=1, h=1), glass(w=w, h=h))
+    for w, h, verdict in (1667, 5000, 0), (5000, 1667, 0), (1666, 5000, 2), (1667, 4999, 2), (4999, 1667, 2), (5000, 1666, 2):
+        ask("size-most", verdict, pane(w=1667, h=5000), glass(w=w, h=h))
+        ask("size-most", verdict, pane(w=5000, h=1667), glass(w=w, h=h))
+
+
+# B, P and K with B*B*P equal to K*K
+EQUAL = [
+    (100, 144, 1200), (1, 25, 5), (7, 36, 42), (250, 400, 5000), (650, 49, 4550), (2000, 100, 20000), (1999, 529, 45977),
+    (2000, 961, 62000), (1, 900, 30), (333, 64, 2664),
+]
+# one above
+ABOVE = [
+    (1, 26, 5), (5, 41, 32), (13, 29, 70), (145, 37, 882), (257, 65, 2072), (401, 101, 4030), (577, 145, 6948),
+    (901, 226, 13545), (1601, 401, 32060), (1937, 485, 42658), (1, 962, 31),
+]
+# one below
+BELOW = [
+    (1, 24, 5), (10, 26, 51), (14, 50, 99), (20, 101, 201), (40, 401, 801), (62, 962, 1923), (255, 63, 2024), (399, 99, 3970),
+    (899, 224, 13455), (1599, 399, 31940), (1935, 483, 42526),
+]
+
+
+def pressed(edges, span, pressure, is_up):
+    """A pane under this P, by the wind down or up, and the thickness for which it has it."""
+    angle, thick, maximum, minimum = (60, 12, 56, 14) if pressure >= 56 else (74, 6, 19, 3)
+    wind = dict(up=pressure + minimum) if is_up else dict(down=pressure - maximum)
+    return pane(edges, angle, w=span, h=span, **wind), thick
+
+
+def roots():
+    """Clause 4 where B*B*P is K*K or next to it, by the constant for the pane's edges."""
+    for table, apart in (EQUAL, 0), (ABOVE, 1), (BELOW, -1):
+        for span, pressure, constant in table:
+            if span * span * pressure - constant * constant != apart:
+                raise SystemExit(f"roots: {span} {pressure} {constant} is not {apart} apart")
+            for edges in 2, 4:
+                for is_up in False, True:
+                    it, thick = pressed(edges, span, pressure, is_up)
+                    passes, fails = (constant + 1, constant) if apart > 0 else (constant, constant - 1)
+                    ask("roots", 0, it, by_edges(edges, passes, 1, thick=thick))
+                    ask("roots", 4, it, by_edges(edges, fails, MOST, thick=thick))
+
+
+def first_of(*failing):
+    return next((number for number, fails in enumerate(failing, 1) if fails), 0)
+
+
+def orders():
+    """Every set of clauses that fail together: the first is named. Clause 1 fails by the top, 2 by the sheet, 3 by the
+    thickness and 4 by the constant."""
+    for edges, awning in (4, 1), (2, 0):
+        for top, side, thick, constant in itertools.product((2999, 3000), (1000, 999), (8, 6), (MOST, 1)):
+            it = pane(edges, awning=awning, w=1000, h=1000, top=top)
+            sheet = by_edges(edges, constant, MOST, kind=4, thick=thick, w=side, h=side)
+            ask(f"order-{edges}", first_of(top == 3000, side == 999, thick == 6, constant == 1), it, sheet)
+    # laminated glass, against which clause 1 never stands
+    for side, thick, constant in itertools.product((1000, 999), (12, 8), (MOST, 1)):
+        it = pane(angle=20, top=9000, w=1000, h=1000)
+        sheet = by_edges(4, constant, MOST, kind=1, thick=thick, w=side, h=side)
+        ask("order-laminated", first_of(False, side == 999, thick == 8, constant == 1), it, sheet)
+
+
+def winds():
+    """P at 45 degrees, where 6 mm has a maximum of 40 and a minimum of 9, and 12 mm one of 80 and one of 18."""
+    for thick, maximum, minimum in (6, 40, 9), (12, 80, 18):
+        for down, up, pressure in (
+            (0, 0, maximum), (1, 0, maximum + 1), (0, 1, maximum), (0, minimum - 1, maximum), (0, minimum, maximum),
+            (0, minimum + 1, maximum), (0, maximum, maximum), (0, maximum + minimum - 1, maximum),
+            (0, maximum + minimum, maximum), (0, maximum + minimum + 1, maximum + 1), (10, minimum, maximum + 10),
+            (10, maximum + minimum + 9, maximum + 10), (10, maximum + minimum + 10, maximum + 10),
+            (10, maximum + minimum + 11, maximum + 11), (0, 200, 200 - minimum), (160, 200, maximum + 160),
+            (200, 0, maximum + 200), (1000, 0, maximum + 1000), (0, 1000, 1000 - minimum), (1000, 1000, maximum + 1000),
+            (999, 1000, maximum + 999), (900, 1000, 1000 - minimum), (121, 130, maximum + 121),
+        ):
+            for edges in 2, 4:
+                pin("wind", pressure, pane(edges, awning=thick // 12, down=down, up=up), thick=thick)
+
+
+def live_loads():
+    """The live load of every angle. Laminated heat-strengthened glass of 8 mm spans 2000 under 0.5 kN, 1450 under 1.1 and 450
+    under 1.8, with equal sides."""
+    sheet = glass(kind=2, thick=8)
+    for angle in range(75):
+        reach = 1450 if angle < 30 else 2000
+        ask("live-load", 0, pane(angle=angle, w=reach, h=reach), sheet)
+        ask("live-load", 3, pane(angle=angle, w=reach + 1, h=reach + 1), sheet)
+        ask("live-load", 0, pane(angle=angle, awning=1, w=450, h=450), sheet)
+        ask("live-load", 3, pane(angle=angle, awning=1, w=451, h=451), sheet)
+    # the steeper pane may have the shorter span
+    sheet = glass(kind=2, thick=10)
+    for angle, awning, reach in (29, 0, 2000), (30, 0, 1800), (29, 1, 750), (30, 1, 750), (45, 1, 750):
+        ask("steeper", 0, pane(angle=angle, awning=awning, w=reach, h=2 * reach + 1), sheet)
+        ask("steeper", 3, pane(angle=angle, awning=awning, w=reach + 1, h=2 * reach + 3), sheet)
+
+
+def limits():
+    """The largest and the smallest values. B*B*P and K*K go beyond 32 bits."""
+    for kind in KINDS:
+        for thick in THICK:
+            sheet = glass(kind, thick, stock=999)
+            ask("limits", 1 if kind == 4 else 3, pane(4, 74, 1, MOST, 5000, 5000, 1000, 1000), sheet)
+            ask("limits", 1 if kind == 4 else 3, pane(2, 74, 1, MOST, 5000, 5000, 1000, 1000), sheet)
+            ask("limits", 3, pane(4, 74, 0, 0, 5000, 5000, 1000, 1000), sheet)
+    # 12 mm weighs 114 at 0 degrees: P is 1114 under the highest wind, and K at least 66754 for a span of 2000
+    heavy = pane(4, 0, 0, 2999, 2000, 2000, 1000, 1000)
+    for constant, verdict in (MOST, 0), (66754, 0), (66753, 4), (65536, 4), (65535, 4), (12690, 4), (12689, 4), (1, 4):
+        ask("limits", verdict, heavy, glass(thick=12, two=MOST if verdict else 1, four=constant))
+        ask("limits", verdict, heavy._replace(h=5000), glass(thick=12, two=MOST if verdict else 1, four=constant))
+    # 1900 with two edges: K at least 63416
+    heavy = heavy._replace(edges=2, w=1900, h=5000)
+    for constant, verdict in (MOST, 0), (63416, 0), (63415, 4), (1, 4):
+        ask("limits", verdict, heavy, glass(thick=12, two=constant, four=MOST if verdict else 1))
+    # K*K is 0 but for a multiple of 2 to the 32, or little more
+    for constant in 65536, 65537, 80265, 92682, 92683, 98304, MOST:
+        ask("limits", 0, pane(w=2000, h=2000, angle=60, down=44), glass(thick=12, two=1, four=constant))
+    # the smallest pane on the smallest sheet: P is 57
+    small = pane(4, 0, 0, 0, 1, 1, 0, 0)
+    for constant, verdict in (1, 4), (7, 4), (8, 0):
+        ask("limits", verdict, small, glass(3, 6, 1, 1, MOST if verdict else 1, constant, 0))
+    # high wind alone is no cause: assumption (f) of 6.5.4 sets no further limit
+    for down, up in (120, 0), (121, 0), (1000, 0), (0, 121), (0, 1000), (1000, 1000):
+        ask("limits", 0, pane(down=down, up=up), glass())
+
+
+def stocks():
+    """The number of sheets has no say."""
+    for stock in 0, 1, 999:
+        ask("stock", 0, pane(), glass(stock=stock))
+        ask("stock", 1, pane(top=3000), glass(kind=4, stock=stock))
+        ask("stock", 3, pane(w=2001, h=2001), glass(stock=stock))
+
+
+def paper_job():
+    """The job of document 01, with no ids: every pane with every glass, in file order."""
+    put("canopy.job", "accepted 2 2", (CRATE.parent.parent / "examples" / "canopy.job").read_bytes())
+    run("canopy.job", [], ["1 9 passes", "1 7 passes", "2 9 passes", "2 7 fails 3"])
+    run("canopy.job", [2, 7, 1, 7, 7, 2, 2, 1], ["2 7 fails 3", "1 7 passes", "7 2 refused 10 0", "2 1 refused 11 0"])
+
+
+# ids that begin alike, that differ by a multiple of 256 and that stand in no order; pane n fits into the glasses from n on
+PANE_IDS = (77, 7, 9999, 1, 333, 589, 5)
+GLASS_IDS = (5, 66, 1, 261, 7, 9999, 777)
+
+
+def every_pair():
+    panes = [(id, pane(w=100 * n, h=100 * n)) for n, id in enumerate(PANE_IDS, 1)]
+    glasses = [(id, glass(w=100 * n, h=100 * n)) for n, id in enumerate(GLASS_IDS, 1)]
+    put("ids.job", "accepted 7 7", file_of("ids\n", glasses, panes))
+    answers = {
+        (p, g): f"{p} {g} {spelled(0 if n <= m else 2)}"
+        for n, p in enumerate(PANE_IDS) for m, g in enumerate(GLASS_IDS)
+    }
+    run("ids.job", [], list(answers.values()))
+    asked = sorted(answers)
+    run("ids.job", [id for question in asked for id in question], [answers[question] for question in asked])
+
+
+def unknown_ids():
+    """Number 10 comes before 11. An id of the other part is none."""
+    none = (0, 2, 4294967295, 99999, 9998, 10000, 65541, 65536, 2147483648, 4294967294)
+    asked = []
+    for id in (*none, 66, 261, 777):
+        asked += [(id, 5, 10), (id, 4, 10), (id, id, 10)]
+    for id in (*none, 77, 333, 589):
+        asked += [(5, id, 11), (9999, id, 11)]
+    asked += [(0, 0, 10), (0, 9999, 10), (9999, 0, 11), (99999, 99999, 10)]
+    words = [id for p, g, _ in asked for id in (p, g)]
+    run("ids.job", words, [f"{p} {g} refused {number} 0" for p, g, number in asked])
+
+
+def wrong_ids():
+    """What is no id, and an id with none beside it. Zeros in front make no other number."""
+    words = "5x 5 5 5x 4294967296 5 7 9999999999 00000000005 5 0000000005 0000000777 5 7-"
+    run_words("ids.job", words.split(), [
+        "5x is not an id", "5 has no glass id beside it", "4294967296 is not an id", "7 has no glass id beside it",
+        "00000000005 is not an id", "5 777 passes", "5 has no glass id beside it",
+    ])
+    run_words("ids.job", [5, 777, 5], ["5 777 passes", "5 has no glass id beside it"])
+    run_words("./ids.job", [7, 66], ["7 66 passes"])
+
+
+def empty_parts():
+    put("no-panes.job", "accepted 1 0", file_of("no panes\n", [(1, glass())], []))
+    put("no-glasses.job", "accepted 0 1", file_of("no glasses\n", [], [(1, pane())]))
+    put("no-lines.job", "accepted 0 0", b"T 00000 00000\n")
+    for name in "no-panes.job", "no-glasses.job", "no-lines.job":
+        run(name, [], [])
+    run("no-panes.job", [1, 1, 0, 0], ["1 1 refused 10 0", "0 0 refused 10 0"])
+    run("no-glasses.job", [1, 1, 2, 1, 0, 0], ["1 1 refused 11 0", "2 1 refused 10 0", "0 0 refused 10 0"])
+    run("no-lines.job", [1, 1], ["1 1 refused 10 0"])
+
+
+def most_lines():
+    """64 glasses and 256 panes: glass n serves the panes up to 4 times n."""
+    panes = [(9000 + n, pane(w=n, h=n)) for n in range(1, 257)]
+    glasses = [(9000 + n, glass(w=4 * n, h=4 * n)) for n in range(1, 65)]
+    put("most-lines.job", "accepted 64 256", file_of("most lines\n", glasses, panes))
+    asked = [(1, 1, 0), (1, 64, 0), (256, 1, 2)]
+    for n in range(1, 65):
+        asked += [(4 * n, n, 0)] + [(4 * n + 1, n, 2)] * (n < 64)
+    words = [9000 + id for p, g, _ in asked for id in (p, g)]
+    run("most-lines.job", words, [f"{9000 + p} {9000 + g} {spelled(verdict)}" for p, g, verdict in asked])
+
+
+def most_bytes():
+    """The longest file, and two that are too long."""
+    entries = [(3, glass())], [(4, pane())]
+    bare = len(file_of("", *entries))
+    put("most-bytes.job", "accepted 1 1", file_of("\n" * (65535 - bare), *entries))
+    put("one-byte-more.job", "refused 1 0", file_of("\n" * (65536 - bare), *entries))
+    put("far-too-long.job", "refused 1 0", file_of("\n" * (70000 - bare), *entries))
+    run("most-bytes.job", [4, 3, 3, 4, 4, 4], ["4 3 passes", "3 4 refused 10 0", "4 4 refused 11 0"])
+    for name in "one-byte-more.job", "far-too-long.job":
+        run(name, [], ["refused 1 0"])
+        run(name, [4, 3, 0, 0], ["4 3 refused 1 0", "0 0 refused 1 0"])
+
+
+def refused_files():
+    """A refused file has no other answer, whatever the ids."""
+    sheet, window = lines("G", [(1, glass())]), lines("P", [(1, pane())])
+    body, behind = sheet + window, len(sheet)
+
+    def trailer(file, glass_at, pane_at):
+        return file + b"T %05d %05d\n" % (glass_at, pane_at)
+
+    steep, long = lines("P", [(2, pane(angle=75))]), lines("P", [(2, pane(w=100, h=301))])
+    panes = lines("P", [(id, pane()) for id in range(1, 257)])
+    for cause, offset, file in (
+        (1, 0, b"T 00000 0000\n"), (2, len(body), body + b"T 00000 000xx\n"), (3, len(body), trailer(body, behind, 0)),
+        (4, len(body), trailer(body + b"P 2\n", 0, behind)), (5, len(body), trailer(body + steep, 0, behind)),
+        (6, len(body), trailer(body + window, 0, behind)), (7, len(body), trailer(body + long, 0, behind)),
+        (8, len(sheet + panes), trailer(sheet + panes + long, 0, behind)),
+    ):
+        name, answer = f"cause-{cause}.job", f"refused {cause} {offset}"
+        put(name, answer, file)
+        run(name, [], [answer])
+        run(name, [1, 1, 0, 0, 9999, 1, 1, 9999], [f"{pair} {answer}" for pair in ("1 1", "0 0", "9999 1", "1 9999")])
+
+
+def no_files():
+    """What is not a file gives one line, whatever the ids. The last id stands alone."""
+    run_words("no-such-file.job", [], ["not opened"])
+    run_words("no-such-file.job", [1, 1, 2], ["not opened"])
+    run_words("", [], ["not opened"])
+    run_words(".", [], ["not read"])
+    run_words(".", [1, 1], ["not read"])
+    run_words("ids.job", [5], ["5 has no glass id beside it"])
+
+
+def write():
+    shutil.rmtree(CRATE / "data", ignore_errors=True)
+    (CRATE / "data").mkdir()
+    for name, file in FILES.items():
+        (CRATE / "data" / name).write_bytes(file)
+    answers = [line for _, lines in RUN for line in lines]
+    (CRATE / "args").write_text("".join(f"{word}\n" for words, _ in RUN for word in words))
+    (CRATE / "stdout").write_text("".join(f"{line}\n" for line in answers))
+    counts = [f"{sum(line.endswith(text) for line in answers)} {text}" for text in map(spelled, range(5))]
+    print(f"{len(FILES)} files, {len(answers)} lines, of which", ", ".join(counts))
+
+
+for group in spans, columns, dead_loads, kinds, sizes, roots, orders, winds, live_loads, limits, stocks:
+    group()
+paper_job()
+for jobs in JOBS.values():
+    for job in jobs:
+        job.put()
+for group in every_pair, unknown_ids, wrong_ids, empty_parts, most_lines, most_bytes, refused_files, no_files:
+    group()
+write()
