@@ -1,6 +1,6 @@
 -- The bench examples, computed.
 use mathlib.Core.Path.{refl}
-use Rattle.point_load.specs.Spans.{spans}
+use Rattle.span_table.specs.Spans.{spans}
 use Rattle.clauses.specs.Examples.{Examples}
 
 pub examples : Examples

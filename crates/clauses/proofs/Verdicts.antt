@@ -9,7 +9,7 @@ use Rattle.job_pane.specs.Values.{PaneValues}
 use Rattle.job_pane.specs.declared.Pane.{Pane}
 use Rattle.point_load.specs.PointLoad.{pointLoadFails}
 use Rattle.point_load.specs.Steps.{tooWide}
-use Rattle.point_load.proofs.Rows.{column-high}
+use Rattle.point_load.proofs.Columns.{column-high}
 use Rattle.uniform_load.specs.UniformLoad.{uniformLoadFails}
 use Rattle.uniform_load.specs.Steps.{overloaded, UniformValues}
 use Rattle.uniform_load.proofs.Bounds.{uniform-values}

@@ -12,7 +12,7 @@ use Rattle.job_glass.specs.declared.Glass.{Glass}
 use Rattle.job_pane.specs.Values.{PaneValues}
 use Rattle.job_pane.specs.declared.Pane.{Pane}
 use Rattle.point_load.specs.Support.{spanOf}
-use Rattle.point_load.proofs.Rows.{if-high, thickness-high, nominal-is}
+use Rattle.span_table.proofs.Rows.{if-high, thickness-high, nominal-is}
 use Rattle.uniform_load.specs.DeadLoads.{maxDeadLoad, minDeadLoad}
 use Rattle.uniform_load.specs.UniformLoad.{spanConstant}
 use Rattle.uniform_load.specs.Steps.{uniformLoadOf, pressureOn, UniformValues}

@@ -9,7 +9,7 @@ use native.Mathlib.Omega.{arith}
 use lib.Dec.{T, leb, eqb, leb→le, eqb→eq}
 use lib.ListN.{getD}
 use Rattle.job_part.proofs.Tests.{and-iff}
-use Rattle.point_load.proofs.Upto.{upto, at}
+use Rattle.span_table.proofs.Upto.{upto, at}
 use Rattle.uniform_load.specs.DeadLoads.{deadLoads, maxRow, minRow}
 
 -- The table as the code holds it: maximum and minimum.

@@ -1,9 +1,9 @@
 use borrow.Author.Needs.{needs}
 use native.Mathlib.Omega.{arith}
-use Rattle.point_load.specs.Spans.{spans}
-use Rattle.point_load.proofs.Rows.{row-high}
-use Rattle.point_load.proofs.spans.max_span.Statement.{statement}
-use Rattle.point_load.proofs.spans.max_span.Tie as tie
+use Rattle.span_table.specs.Spans.{spans}
+use Rattle.span_table.proofs.Rows.{row-high}
+use Rattle.span_table.proofs.max_span.Statement.{statement}
+use Rattle.span_table.proofs.max_span.Tie as tie
 
 within : tie.Need-index-1-result
 within c =

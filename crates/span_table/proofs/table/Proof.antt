@@ -1,6 +1,6 @@
 use borrow.Author.Tests.{ne-eqb}
-use Rattle.point_load.proofs.spans.table.Statement.{statement}
-use Rattle.point_load.proofs.spans.table.Tie as tie
+use Rattle.span_table.proofs.table.Statement.{statement}
+use Rattle.span_table.proofs.table.Tie as tie
 
 pub table-spec : {M : Type 1} → statement M
 table-spec =

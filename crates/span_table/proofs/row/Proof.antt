@@ -1,8 +1,8 @@
 use borrow.Author.Needs.{needs}
 use native.Mathlib.Omega.{arith}
-use Rattle.point_load.proofs.Rows.{table-high, load-high, thickness-high}
-use Rattle.point_load.proofs.spans.row.Statement.{statement}
-use Rattle.point_load.proofs.spans.row.Tie as tie
+use Rattle.span_table.proofs.Rows.{table-high, load-high, thickness-high}
+use Rattle.span_table.proofs.row.Statement.{statement}
+use Rattle.span_table.proofs.row.Tie as tie
 
 sum-fits : tie.Need-add-result
 sum-fits c =

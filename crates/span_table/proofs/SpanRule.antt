@@ -8,10 +8,10 @@ use native.Mathlib.Omega.{arith}
 use borrow.Author.Tests.{le-leb}
 use lib.Dec.{T, leb, leb→le}
 use lib.ListN.{getD}
-use Rattle.point_load.specs.Spans.{spans, tableOf, loadOf, thicknessOf}
-use Rattle.point_load.specs.SpanRule.{SpanRule}
-use Rattle.point_load.proofs.Upto.{upto, at}
-use Rattle.point_load.proofs.Rows.{table-high, load-high, thickness-high, nominal-is}
+use Rattle.span_table.specs.Spans.{spans, tableOf, loadOf, thicknessOf}
+use Rattle.span_table.specs.SpanRule.{SpanRule}
+use Rattle.span_table.proofs.Upto.{upto, at}
+use Rattle.span_table.proofs.Rows.{table-high, load-high, thickness-high, nominal-is}
 
 abbrev entry : ℕ → ℕ → ℕ → ℕ → ℕ
 entry table load thickness column = getD (getD spans (12 * table + (4 * load + thickness)) []) column 0

@@ -3,18 +3,15 @@
 --     table-high, load-high, thickness-high    of a kind, a live load and a thickness
 --     nominal-is                               the thicknesses stand in the tables in order
 --     row-high                                 of the three together
---     column-high                              of a pane
-use Prim.Native.Nat.{ℕ, _+_, _*_, _≤_, _<_, min, max}
+use Prim.Native.Nat.{ℕ, _+_, _*_, _≤_, _<_}
 use mathlib.Core.Path.{_≡_}
 use mathlib.Core.Logic.{inl, inr}
 use mathlib.Core.Bool.{Bool, true, false}
 use native.Mathlib.Omega.{arith}
-use lib.Dec.{leb, eqb}
+use lib.Dec.{eqb}
 use Rattle.job_line.specs.Bytes.{if_then_else_}
-use Rattle.point_load.specs.Spans.{tableOf, loadOf, thicknessOf, rowOf}
-use Rattle.point_load.specs.SpanRule.{Nominal}
-use Rattle.point_load.specs.Support.{columnOf}
-use Rattle.job_pane.specs.declared.Pane.{Pane}
+use Rattle.span_table.specs.Spans.{tableOf, loadOf, thicknessOf, rowOf}
+use Rattle.span_table.specs.SpanRule.{Nominal}
 
 pub if-high : {x y n : ℕ} (b : Bool) → x ≤ n → y ≤ n → (if b then x else y) ≤ n
 if-high true h k = h
@@ -39,14 +36,3 @@ nominal-is thick (inr (inr (inr e))) = rw e
 
 pub row-high : (kind load thick : ℕ) → rowOf kind load thick < 48
 row-high kind load thick = omega (arith, table-high kind, load-high load, thickness-high thick)
-
-pub column-high : (p : Pane) → columnOf p < 4
-column-high p = omega (arith, most)
-  where
-    most : columnOf p ≤ 3
-    most =
-        if-high (eqb (p .edges) 2)
-        (omega arith)
-        (if-high (eqb (p .w) (p .h))
-        (omega arith)
-        (if-high (leb (max (p .w) (p .h)) (2 * min (p .w) (p .h))) (omega arith) (omega arith)))

@@ -3,7 +3,7 @@
 use Prim.Native.Nat.{ℕ, _≤_, _<_}
 use mathlib.Core.Path.{_≡_}
 use mathlib.Core.Logic.{_⊎_}
-use Rattle.point_load.specs.Spans.{maxSpan}
+use Rattle.span_table.specs.Spans.{maxSpan}
 
 -- A nominal thickness of the tables, in mm.
 abbrev pub Nominal : ℕ → Type 0

@@ -1,6 +1,6 @@
 use borrow.Author.Tests.{ne-eqb}
-use Rattle.point_load.proofs.spans.thickness_row.Statement.{statement}
-use Rattle.point_load.proofs.spans.thickness_row.Tie as tie
+use Rattle.span_table.proofs.thickness_row.Statement.{statement}
+use Rattle.span_table.proofs.thickness_row.Tie as tie
 
 pub thickness-row-spec : {M : Type 1} → statement M
 thickness-row-spec =

@@ -1,6 +1,6 @@
 use borrow.Author.Tests.{ne-eqb}
-use Rattle.point_load.proofs.spans.load_group.Statement.{statement}
-use Rattle.point_load.proofs.spans.load_group.Tie as tie
+use Rattle.span_table.proofs.load_group.Statement.{statement}
+use Rattle.span_table.proofs.load_group.Tie as tie
 
 pub load-group-spec : {M : Type 1} → statement M
 load-group-spec =
