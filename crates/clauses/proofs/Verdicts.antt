@@ -1,6 +1,7 @@
 -- The verdict, by the tests that led to it.
 --     fails-1 .. fails-4, passes    each verdict
---     Loaded                        the tests of a pane that was loaded before are those of the pane
+--     column-of, uniform-of         what was worked out of a pane is within its bounds
+--     wide-is, overloaded-is        the tests of what was worked out are those of the pane
 use Prim.Native.Nat.{_<_}
 use mathlib.Core.Path.{_≡_, ap, sym, subst⁻¹}
 use mathlib.Core.Bool.{true, false}

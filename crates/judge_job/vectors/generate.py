@@ -499,9 +499,9 @@ def most_bytes():
     """The longest file, and two that are too long."""
     entries = [(3, glass())], [(4, pane())]
     bare = len(file_of("", *entries))
-    put("most-bytes.job", "accepted 1 1", file_of("\n" * (65535 - bare), *entries))
-    put("one-byte-more.job", "refused 1 0", file_of("\n" * (65536 - bare), *entries))
-    put("far-too-long.job", "refused 1 0", file_of("\n" * (70000 - bare), *entries))
+    put("most-bytes.job", "accepted 1 1", file_of(" " * (65535 - bare), *entries))
+    put("one-byte-more.job", "refused 1 0", file_of(" " * (65536 - bare), *entries))
+    put("far-too-long.job", "refused 1 0", file_of(" " * (70000 - bare), *entries))
     run("most-bytes.job", [4, 3, 3, 4, 4, 4], ["4 3 passes", "3 4 refused 10 0", "4 4 refused 11 0"])
     for name in "one-byte-more.job", "far-too-long.job":
         run(name, [], ["refused 1 0"])

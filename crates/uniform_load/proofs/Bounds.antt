@@ -1,8 +1,8 @@
 -- No number of the clause is too large, for a pane and a glass of an accepted file.
---     weight-high                         a row's load times a thickness
---     max-load-high, min-load-high        a dead load
---     pressure-high, constant-high        P and K
---     uniform-values                      what the clause reads of a pane
+--     weight-high                               a row's load times a thickness
+--     max-load-high, min-load-high              a dead load
+--     span-high, pressure-high, constant-high   B, P and K
+--     uniform-values                            what the clause reads of a pane
 use Prim.Native.Nat.{ℕ, _*_, _≤_}
 use native.Mathlib.Nat.{mul-le-mul, max-le}
 use native.Mathlib.Omega.{arith}
