@@ -28,16 +28,15 @@ verdict a b c d = if a then Fails 1 else if b then Fails 2 else if c then Fails 
 abbrev nth : ℕ → Bool → Bool → Bool → Bool → Bool
 nth n a b c d = if eqb n 1 then a else if eqb n 2 then b else if eqb n 3 then c else d
 
-below-2 : (b c d : Bool) (m : ℕ) → 1 ≤ m → m < 2 → nth m false b c d ≡ false
-below-2 b c d zero l h = absurd (omega arith)
-below-2 b c d (suc zero) l h = refl
-below-2 b c d (suc (suc m)) l h = absurd (omega arith)
-
-below-3 : (c d : Bool) (m : ℕ) → 1 ≤ m → m < 3 → nth m false false c d ≡ false
-below-3 c d zero l h = absurd (omega arith)
-below-3 c d (suc zero) l h = refl
-below-3 c d (suc (suc zero)) l h = refl
-below-3 c d (suc (suc (suc m))) l h = absurd (omega arith)
+-- A clause before the fourth passes if its own test does.
+nth-passes :
+    (a b c d : Bool) (m : ℕ) →
+    1 ≤ m → m < 4 → (m ≡ 1 → a ≡ false) → (m ≡ 2 → b ≡ false) → (m ≡ 3 → c ≡ false) → nth m a b c d ≡ false
+nth-passes a b c d zero l h p q r = absurd (omega arith)
+nth-passes a b c d (suc zero) l h p q r = p refl
+nth-passes a b c d (suc (suc zero)) l h p q r = q refl
+nth-passes a b c d (suc (suc (suc zero))) l h p q r = r refl
+nth-passes a b c d (suc (suc (suc (suc m)))) l h p q r = absurd (omega arith)
 
 none-fails : (n : ℕ) → nth n false false false false ≡ false
 none-fails n = go (eqb n 1) (eqb n 2) (eqb n 3)
@@ -47,13 +46,6 @@ none-fails n = go (eqb n 1) (eqb n 2) (eqb n 3)
     go false true z = refl
     go false false true = refl
     go false false false = refl
-
-below-4 : (d : Bool) (m : ℕ) → 1 ≤ m → m < 4 → nth m false false false d ≡ false
-below-4 d zero l h = absurd (omega arith)
-below-4 d (suc zero) l h = refl
-below-4 d (suc (suc zero)) l h = refl
-below-4 d (suc (suc (suc zero))) l h = refl
-below-4 d (suc (suc (suc (suc m)))) l h = absurd (omega arith)
 
 -- What `FirstToFail` says, of any four tests.
 record First (n : ℕ) (a b c d : Bool) : Type 0 where
@@ -68,13 +60,31 @@ first-of n true b c d e =
     record { low = omega arith; high = omega arith; fails = rw is; before = λ m l h. absurd (omega arith) }
 first-of n false true c d e =
     let is : n ≡ 2 = cc in
-    record { low = omega arith; high = omega arith; fails = rw is; before = λ m l h. below-2 true c d m l (omega arith) }
+    record {
+      low = omega arith;
+      high = omega arith;
+      fails = rw is;
+      before =
+          λ m l h. nth-passes false true c d m l (omega arith) (λ e. refl) (λ e. absurd (omega arith)) (λ e. absurd (omega arith));
+    }
 first-of n false false true d e =
     let is : n ≡ 3 = cc in
-    record { low = omega arith; high = omega arith; fails = rw is; before = λ m l h. below-3 true d m l (omega arith) }
+    record {
+      low = omega arith;
+      high = omega arith;
+      fails = rw is;
+      before =
+          λ m l h. nth-passes false false true d m l (omega arith) (λ e. refl) (λ e. refl) (λ e. absurd (omega arith));
+    }
 first-of n false false false true e =
     let is : n ≡ 4 = cc in
-    record { low = omega arith; high = omega arith; fails = rw is; before = λ m l h. below-4 true m l (omega arith) }
+    record {
+      low = omega arith;
+      high = omega arith;
+      fails = rw is;
+      before =
+          λ m l h. nth-passes false false false true m l (omega arith) (λ e. refl) (λ e. refl) (λ e. refl);
+    }
 first-of n false false false false e = clash (cc)
 
 -- Where the verdict passes, no test failed.

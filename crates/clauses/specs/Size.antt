@@ -5,7 +5,7 @@ use lib.Dec.{leb}
 use Rattle.job_glass.specs.declared.Glass.{Glass}
 use Rattle.job_pane.specs.declared.Pane.{Pane}
 
--- What a side of a pane takes of a sheet, in mm: the side itself.
+-- What a side of a pane takes of a sheet of this glass, in mm: the side itself, whatever the glass.
 abbrev pub cutSide : ℕ → Glass → ℕ
 cutSide side g = side
 

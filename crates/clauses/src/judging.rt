@@ -21,13 +21,14 @@ pub enum Verdict {
     Fails(u32),
 }
 
-// A pane with what clauses 3 and 4 read of it, worked out once for all the glasses that it is tried with.
+// What load_pane works out once, for all the glasses that a pane is tried with.
 pub struct LoadedPane {
     pub pane: Pane,
     pub point: PointLoad,
     pub uniform: UniformLoad,
 }
 
+// A pane with what clauses 3 and 4 read of it.
 pub fn load_pane(pane: Pane) -> LoadedPane
     requires { ⌜ PaneValues pane ⌝ }
     ensures { λ r. ⌜ r ≡ loadedOf pane ⌝ }
@@ -41,6 +42,7 @@ pub fn load_pane(pane: Pane) -> LoadedPane
     }
 }
 
+// The verdict of a pane and a glass.
 pub fn judge(pane: Pane, glass: Glass) -> Verdict
     requires { ⌜ PaneValues pane × GlassValues glass ⌝ }
     ensures { λ r. ⌜ r ≡ verdictOf pane glass ⌝ }

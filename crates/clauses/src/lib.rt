@@ -8,7 +8,6 @@ mod lookup;
 mod size;
 
 use job_file::Checked;
-use job_file::Reading;
 use job_file::read_job;
 use job_part::Cause;
 pub use judging::LoadedPane;

@@ -13,7 +13,7 @@ pub fn is_too_small(pane: Pane, glass: Glass) -> bool
     !(((w <= glass.w) & (h <= glass.h)) | ((w <= glass.h) & (h <= glass.w)))
 }
 
-// The length of a sheet that a side of a pane takes, in mm.
+// What a side of a pane takes of a sheet of this glass, in mm.
 pub fn cut_side(side: u32, glass: Glass) -> u32
     ensures { λ r. ⌜ r ≡ cutSide side glass ⌝ }
 {
