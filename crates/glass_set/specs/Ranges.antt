@@ -1,0 +1,18 @@
+-- Sums, counts and tests over the numbers below a bound.
+use Prim.Native.Nat.{ℕ, zero, suc, _+_}
+use mathlib.Core.Bool.{Bool, true, _&&_}
+use Rattle.job_line.specs.Bytes.{if_then_else_}
+
+-- f 0 + f 1 + .. below n.
+unfoldable pub sumTo : (ℕ → ℕ) → ℕ → ℕ
+sumTo f zero = 0
+sumTo f (suc n) = sumTo f n + f n
+
+-- How many of the numbers below n pass a test.
+abbrev pub countTo : (ℕ → Bool) → ℕ → ℕ
+countTo test n = sumTo (λ i. if test i then 1 else 0) n
+
+-- Whether every number below n passes a test.
+unfoldable pub allTo : (ℕ → Bool) → ℕ → Bool
+allTo test zero = true
+allTo test (suc n) = allTo test n && test n

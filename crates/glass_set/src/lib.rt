@@ -1,0 +1,60 @@
+// A set of glasses as a word of 64 bits, one for each glass in file order: document 01, "The placing". Built and tested by shifts
+// and masks; every promise is on each bit, as specs/Member.antt defines.
+ghost use mathlib.Core.Path.{_≡_};
+ghost use mathlib.Core.Bool.{true, not, _&&_, _||_};
+ghost use Prim.Native.Nat.{_<_};
+ghost use lib.Dec.{eqb};
+ghost use Rattle.glass_set.specs.Member.{has, Members, within};
+
+// Whether a glass is in a set.
+pub fn contains(set: u64, glass: usize) -> bool
+    requires { ⌜ glass < 64 ⌝ }
+    ensures { λ r. ⌜ r ≡ has set glass ⌝ }
+{
+    (set >> glass) & 1 == 1
+}
+
+// A set with one glass more.
+pub fn with(set: u64, glass: usize) -> u64
+    requires { ⌜ glass < 64 ⌝ }
+    ensures { λ r. ⌜ Members r (λ g. eqb g glass || has set g) ⌝ }
+{
+    set | (1 << glass)
+}
+
+// The glasses that are in both sets.
+pub fn both(set: u64, other: u64) -> u64
+    ensures { λ r. ⌜ Members r (λ g. has set g && has other g) ⌝ }
+{
+    set & other
+}
+
+// The glasses of a set that are not in another.
+pub fn minus(set: u64, other: u64) -> u64
+    ensures { λ r. ⌜ Members r (λ g. has set g && not (has other g)) ⌝ }
+{
+    set & !other
+}
+
+// A set without a glass.
+pub fn without(set: u64, glass: usize) -> u64
+    requires { ⌜ glass < 64 ⌝ }
+    ensures { λ r. ⌜ Members r (λ g. has set g && not (eqb g glass)) ⌝ }
+{
+    set & !(1 << glass)
+}
+
+// The first glass of a set that is not empty.
+pub fn first(set: u64) -> usize
+    requires { ⌜ (set ≡ 0 → ⊥) ⌝ }
+    ensures { λ r. ⌜ (r < 64) × (has set r ≡ true) ⌝ }
+{
+    u64::trailing_zeros(set) as usize
+}
+
+// Whether every glass of a set is in another.
+pub fn is_within(set: u64, other: u64) -> bool
+    ensures { λ r. ⌜ r ≡ within set other ⌝ }
+{
+    minus(set, other) == 0
+}

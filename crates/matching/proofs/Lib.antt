@@ -1,0 +1,10 @@
+-- No matching serves more than the sheets of some glasses and the panes that need none of them.
+pub mod Sums
+pub mod Cover
+-- The search: one law for each way through it.
+pub mod Chains
+pub mod Choices
+-- The placing of pane after pane.
+pub mod Rounds
+-- The glasses with a sheet to spare.
+pub mod Spares

@@ -1,0 +1,72 @@
+-- Laws of the set of glasses with a sheet to spare.
+--     Counted                                  the glasses below a number have been looked at
+--     counted-first, counted-in, counted-out   none yet; the next has a sheet, or has none
+--     after-some, after-none                   one glass has some sheets left, or none
+use Prim.Native.Nat.{ℕ, _+_, _≤_, _<_}
+use mathlib.Core.Path.{_≡_, refl, ap, sym, _∙_}
+use mathlib.Core.Logic.{_⊎_, inl, inr}
+use mathlib.Core.Bool.{Bool, true, false, not, _&&_, _||_}
+use mathlib.Core.List.{List}
+use native.Mathlib.Omega.{arith}
+use lib.Dec.{ltb, eqb}
+use lib.ListN.{getD}
+use borrow.Author.Tests.{eq-eqb, ne-eqb, lt-ltb, le-ltb}
+use Rattle.job_line.specs.Bytes.{if_then_else_}
+use Rattle.glass_set.specs.Member.{has, Members}
+use Rattle.glass_set.proofs.Members.{has-none}
+use Rattle.matching.proofs.Chains.{same-or-not}
+
+pub record Counted (sheets : List ℕ) (spare next : ℕ) : Type 0 where
+  pub done : (g : ℕ) → g < next → g < 64 → has spare g ≡ ltb 0 (getD sheets g 0)
+  pub rest : (g : ℕ) → next ≤ g → g < 64 → has spare g ≡ false
+
+pub counted-first : (sheets : List ℕ) → Counted sheets 0 0
+counted-first sheets = record { done = λ g l k. absurd (omega arith); rest = λ g l k. has-none g }
+
+module _ (sheets : List ℕ) (spare next : ℕ) (c : Counted sheets spare next) where
+  pub counted-in :
+      (more : ℕ) → Members more (λ g. eqb g next || has spare g) → 0 < getD sheets next 0 → Counted sheets more (next + 1)
+  counted-in more is some = record {
+    done = λ g l k. is g k ∙ done g l k (same-or-not g next);
+    rest = λ g l k. is g k ∙ rw (ne-eqb g next (λ e. omega (arith, e)), c .rest g (omega arith) k);
+  }
+    where
+      done :
+          (g : ℕ) → g < next + 1 → g < 64 → (g ≡ next) ⊎ (g ≡ next → ⊥) →
+          (eqb g next || has spare g) ≡ ltb 0 (getD sheets g 0)
+      done g l k (inl same) = rw (eq-eqb g next same, same, lt-ltb 0 (getD sheets next 0) some)
+      done g l k (inr other) = rw (ne-eqb g next other) (c .done g (omega arith) k)
+
+  pub counted-out : getD sheets next 0 ≤ 0 → Counted sheets spare (next + 1)
+  counted-out none = record {
+    done = λ g l k. done g l k (same-or-not g next);
+    rest = λ g l k. c .rest g (omega arith) k;
+  }
+    where
+      empty : getD sheets next 0 ≤ 0
+      empty = none
+
+      done : (g : ℕ) → g < next + 1 → g < 64 → (g ≡ next) ⊎ (g ≡ next → ⊥) → has spare g ≡ ltb 0 (getD sheets g 0)
+      done g l k (inl same) = c .rest g (omega arith) k ∙ rw (same, le-ltb 0 (getD sheets next 0) empty)
+      done g l k (inr other) = c .done g (omega arith) k
+
+module _ (spare glass rest : ℕ) where
+  pub after-some :
+      (more : ℕ) → 0 < rest → Members more (λ g. eqb g glass || has spare g) →
+      Members more (λ g. if eqb g glass then ltb 0 rest else has spare g)
+  after-some more some is g l = is g l ∙ rw (lt-ltb 0 rest some) (go (eqb g glass))
+    where
+      go : (b : Bool) → (b || has spare g) ≡ (if b then true else has spare g)
+      go true = refl
+      go false = refl
+
+  pub after-none :
+      (less : ℕ) → rest ≤ 0 → Members less (λ g. has spare g && not (eqb g glass)) →
+      Members less (λ g. if eqb g glass then ltb 0 rest else has spare g)
+  after-none less none is g l = is g l ∙ rw (le-ltb 0 rest none) (go (eqb g glass) (has spare g))
+    where
+      go : (b s : Bool) → (s && not b) ≡ (if b then false else s)
+      go true true = refl
+      go true false = refl
+      go false true = refl
+      go false false = refl
