@@ -1,0 +1,152 @@
+-- From what the search promises of numbers to what the promise says of ids: the list of the ids of the glasses held is a
+-- placing, with no sheet to spare where a pane is left over, and places the panes that the search serves.
+--     Bridge           what the rows and the sheets of the search have to do with the file
+--     bit-of-glass     a glass of the file that passes has its bit set
+--     held-passes      a glass held is one of the file and passes
+--     is-placing       the ids of the glasses held are a placing
+--     placed-served    they place as many panes as the search serves
+--     none-spare       a pane left with 0 has no passing glass with a sheet to spare
+use Prim.Native.Nat.{ℕ, zero, suc, _≤_, _<_}
+use mathlib.Core.Path.{_≡_, refl, sym, _∙_}
+use mathlib.Core.Logic.{_⊎_, inl, inr}
+use mathlib.Core.Bool.{Bool, true, false, not, _&&_}
+use mathlib.Core.List.{List, [], _∷_, map}
+use native.Mathlib.Omega.{arith}
+use lib.Dec.{ltb, eqb}
+use lib.ListN.{length, getD, length-map}
+use borrow.Author.Tests.{ltb-true, ltb-false, lt-ltb, ne-eqb}
+use Rattle.job_part.proofs.Kept.{clash}
+use Rattle.job_glass.specs.declared.Glass.{Glass}
+use Rattle.job_pane.specs.declared.Pane.{Pane}
+use Rattle.job_file.specs.Rules.{Rules}
+use Rattle.glass_set.specs.Member.{has}
+use Rattle.matching.specs.Matching.{given, served, Greatest}
+use Rattle.matching.specs.Rows.{taskOf, wayOf}
+use Rattle.placing.specs.Passing.{passes, paneAt, glassAt}
+use Rattle.placing.specs.Placing.{times, nonzero, PassingId, Placing, NoneToSpare}
+use Rattle.placing.specs.Steps.{idsOf}
+use Rattle.placing.proofs.Ids.{count-same, times-count, nonzero-count}
+use Rattle.placing.proofs.Numbers.{few, id-of-file, id-past, glass-test}
+
+pub record Bridge (glasses : List Glass) (sheets : List ℕ) (panes : List Pane) (rows sheets64 : List ℕ) : Type 0 where
+  -- the file is an accepted one
+  pub rules : Rules glasses panes
+  pub a-row-each : length rows ≡ length panes
+  -- each bit of a row is the verdict, and no bit is set past the last glass
+  pub bits :
+      (p g : ℕ) → p < length panes → g < 64 →
+      has (getD rows p 0) g ≡ (ltb g (length glasses) && passes (paneAt panes p) (glassAt glasses g))
+  pub sheets-are : (g : ℕ) → g < length glasses → getD sheets64 g 0 ≡ getD sheets g 0
+
+both : (a b : Bool) → (a && b) ≡ true → (a ≡ true) × (b ≡ true)
+both true true e = (refl, refl)
+both true false e = clash (cc)
+both false b e = clash (cc)
+
+map-at : (f : ℕ → ℕ) (xs : List ℕ) (i : ℕ) → i < length xs → getD (map f xs) i 0 ≡ f (getD xs i 0)
+map-at f [] i l = absurd (omega arith)
+map-at f (x ∷ xs) zero l = refl
+map-at f (x ∷ xs) (suc i) l = map-at f xs i (omega arith)
+
+module _
+    {glasses : List Glass} {sheets : List ℕ} {panes : List Pane} {rows sheets64 : List ℕ}
+    (b : Bridge glasses sheets panes rows sheets64)
+  where
+    -- A set bit is a glass of the file that passes.
+    glass-of-bit :
+        (p g : ℕ) → p < length panes → g < 64 → has (getD rows p 0) g ≡ true →
+        (g < length glasses) × (passes (paneAt panes p) (glassAt glasses g) ≡ true)
+    glass-of-bit p g l k set =
+        let is = both (ltb g (length glasses)) (passes (paneAt panes p) (glassAt glasses g)) (sym (b .bits p g l k) ∙ set) in
+        (ltb-true g (length glasses) (is .0), is .1)
+
+    pub bit-of-glass :
+        (p g : ℕ) → p < length panes → g < length glasses → passes (paneAt panes p) (glassAt glasses g) ≡ true →
+        has (getD rows p 0) g ≡ true
+    bit-of-glass p g l k pass =
+        b .bits p g l (omega (arith, few (b .rules))) ∙ rw (lt-ltb g (length glasses) k, pass)
+
+    module _
+        (held : List ℕ)
+        (tight : ℕ)
+        (long : length held ≡ length panes)
+        (best : Greatest (taskOf rows sheets64) (wayOf held) (has tight))
+      where
+        id-at : (p : ℕ) → p < length panes → getD (idsOf glasses held) p 0 ≡ glassAt glasses (getD held p 0) .id
+        id-at p l = map-at (λ g. glassAt glasses g .id) held p (omega arith)
+
+        rows-ids : length (idsOf glasses held) ≡ length rows
+        rows-ids = length-map held (λ g. glassAt glasses g .id) ∙ long ∙ sym (b .a-row-each)
+
+        -- A glass held is one of the file and passes.
+        pub held-passes :
+            (p : ℕ) → p < length panes → getD held p 0 < 64 →
+            (getD held p 0 < length glasses) × (passes (paneAt panes p) (glassAt glasses (getD held p 0)) ≡ true)
+        held-passes p l k =
+            glass-of-bit p (getD held p 0) l k (best .matching .passing p (omega (arith, b .a-row-each)) k)
+
+        none-zero : (p : ℕ) → p < length panes → 64 ≤ getD held p 0 → getD (idsOf glasses held) p 0 ≡ 0
+        none-zero p l none = id-at p l ∙ id-past glasses (getD held p 0) (omega (arith, few (b .rules)))
+
+        -- An entry is not 0 exactly where a glass is held.
+        nonzero-held : (p : ℕ) → p < length panes → not (eqb (getD (idsOf glasses held) p 0) 0) ≡ ltb (getD held p 0) 64
+        nonzero-held p l = go (ltb (getD held p 0) 64) refl
+          where
+            go : (t : Bool) → ltb (getD held p 0) 64 ≡ t → not (eqb (getD (idsOf glasses held) p 0) 0) ≡ t
+            go true below =
+                let is = held-passes p l (ltb-true (getD held p 0) 64 below) in
+                let id = id-of-file (b .rules) (getD held p 0) (is .0) in
+                rw (ne-eqb (getD (idsOf glasses held) p 0) 0 (λ none. omega (arith, id, id-at p l)))
+            go false past = rw (none-zero p l (ltb-false (getD held p 0) 64 past))
+
+        -- The id of a glass stands in the list as often as the glass is given.
+        times-given :
+            (j : ℕ) → j < length glasses →
+            times (glassAt glasses j .id) (idsOf glasses held) ≡ given (taskOf rows sheets64) (wayOf held) j
+        times-given j l =
+            times-count (idsOf glasses held) (length rows) rows-ids (glassAt glasses j .id)
+            ∙ count-same
+            (λ p. eqb (getD (idsOf glasses held) p 0) (glassAt glasses j .id))
+            (λ p. eqb (getD held p 0) j)
+            (length rows)
+            (λ p k. rw (id-at p (omega (arith, b .a-row-each))) (glass-test (b .rules) (getD held p 0) j l))
+
+        pub is-placing : Placing glasses sheets panes (idsOf glasses held)
+        is-placing = record {
+          one-each = rows-ids ∙ b .a-row-each;
+          passing = λ i l. go i l (ltb (getD held i 0) 64) refl;
+          in-stock =
+              λ j l.
+              omega (
+                arith,
+                times-given j l,
+                best .matching .in-stock j (omega (arith, few (b .rules))),
+                b .sheets-are j l,
+              );
+        }
+          where
+            go :
+                (i : ℕ) → i < length panes → (t : Bool) → ltb (getD held i 0) 64 ≡ t →
+                (getD (idsOf glasses held) i 0 ≡ 0) ⊎ PassingId glasses (paneAt panes i) (getD (idsOf glasses held) i 0)
+            go i l true below =
+                let is = held-passes i l (ltb-true (getD held i 0) 64 below) in
+                inr (record { place = getD held i 0; of-file = is .0; is-id = sym (id-at i l); passing = is .1 })
+            go i l false past = inl (none-zero i l (ltb-false (getD held i 0) 64 past))
+
+        pub placed-served : nonzero (idsOf glasses held) ≡ served (taskOf rows sheets64) (wayOf held)
+        placed-served =
+            nonzero-count (idsOf glasses held) (length rows) rows-ids
+            ∙ count-same
+            (λ p. not (eqb (getD (idsOf glasses held) p 0) 0))
+            (λ p. ltb (getD held p 0) 64)
+            (length rows)
+            (λ p k. nonzero-held p (omega (arith, b .a-row-each)))
+
+        pub none-spare : NoneToSpare glasses sheets panes (idsOf glasses held)
+        none-spare i l none j k pass =
+            let empty = ltb-false (getD held i 0) 64 (sym (nonzero-held i l) ∙ rw none) in
+            let here : i < length rows = omega (arith, b .a-row-each) in
+            let left : getD held i 0 ≡ 64 = omega (arith, best .or-none i here) in
+            times-given j k
+            ∙ best .none-to-spare i here left j (omega (arith, few (b .rules))) (bit-of-glass i j l k pass)
+            ∙ b .sheets-are j k

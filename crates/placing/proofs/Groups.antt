@@ -1,0 +1,138 @@
+-- The group of the panes that pass a test of their number, as the code lists it, and which glasses suit a group.
+--     InGroup          an id is that of a pane, of the first n, that passes the test
+--     group-length     the group has as many entries as panes pass
+--     group-among      an id that stands in the group is one of them
+--     group-of-file    each entry is one of them
+--     group-once       each stands in the group once
+--     Suited           a glass passes for a pane of a group
+--     suits-one        a glass that suits a group does so
+use Prim.Native.Nat.{ℕ, zero, suc, _+_, _≤_, _<_}
+use mathlib.Core.Path.{_≡_, refl, sym, _∙_}
+use mathlib.Core.Logic.{_⊎_, inl, inr}
+use mathlib.Core.Bool.{Bool, true, false, not, _&&_, _||_}
+use mathlib.Core.List.{List, [], _∷_, _++_}
+use native.Mathlib.Omega.{arith}
+use lib.Dec.{T, eqb}
+use lib.ListN.{length, getD, length-append}
+use lib.Seq.{take-length}
+use borrow.Author.Tests.{eqb-true}
+use Rattle.job_line.specs.Bytes.{if_then_else_}
+use Rattle.job_part.specs.Part.{among}
+use Rattle.job_part.specs.Rules.{Distinct}
+use Rattle.job_part.proofs.Kept.{clash}
+use Rattle.job_part.proofs.Lists.{distinct-snoc}
+use Rattle.job_part.proofs.Members.{among-append, among-found}
+use Rattle.job_glass.specs.declared.Glass.{Glass}
+use Rattle.job_pane.specs.declared.Pane.{Pane}
+use Rattle.job_file.specs.Rules.{Rules}
+use Rattle.glass_set.specs.Ranges.{sumTo, countTo}
+use Rattle.placing.specs.Passing.{passes, paneAt}
+use Rattle.placing.specs.ShortGroup.{suitsOne}
+use Rattle.placing.specs.Steps.{groupTo}
+use Rattle.placing.proofs.Numbers.{same-pane}
+
+-- Among a list and one number more: among the list, or that number.
+among-last : (n : ℕ) (xs : List ℕ) (x : ℕ) → among n (xs ++ (x ∷ [])) ≡ true → (among n xs ≡ true) ⊎ (x ≡ n)
+unfolding among
+among-last n xs x e = go (among n xs) (eqb x n) refl refl (sym (among-append n xs (x ∷ [])) ∙ e)
+  where
+    go :
+        (a b : Bool) → among n xs ≡ a → eqb x n ≡ b → (a || (b || false)) ≡ true → (among n xs ≡ true) ⊎ (x ≡ n)
+    go true b before is e = inl before
+    go false true before is e = inr (eqb-true x n is)
+    go false false before is e = clash (cc)
+
+pub record InGroup (panes : List Pane) (test : ℕ → Bool) (n id : ℕ) : Type 0 where
+  pub place : ℕ
+  pub below : place < n
+  pub passed : test place ≡ true
+  pub is-id : paneAt panes place .id ≡ id
+
+module _ (panes : List Pane) (test : ℕ → Bool) where
+  pub group-length : (n : ℕ) → length (groupTo panes test n) ≡ countTo test n
+  unfolding groupTo sumTo
+  group-length zero = refl
+  group-length (suc n) = go (test n) (group-length n)
+    where
+      go :
+          (b : Bool) → length (groupTo panes test n) ≡ countTo test n →
+          length (if b then groupTo panes test n ++ (paneAt panes n .id ∷ []) else groupTo panes test n)
+          ≡ countTo test n + (if b then 1 else 0)
+      go true later = rw (length-append, later)
+      go false later = omega arith
+
+  pub group-among : (n id : ℕ) → among id (groupTo panes test n) ≡ true → InGroup panes test n id
+  unfolding groupTo among
+  group-among zero id e = clash (cc)
+  group-among (suc n) id e = go (test n) refl e (group-among n id)
+    where
+      wider : InGroup panes test n id → InGroup panes test (suc n) id
+      wider p = record { place = p .place; below = omega (arith, p .below); passed = p .passed; is-id = p .is-id }
+
+      last :
+          test n ≡ true → (among id (groupTo panes test n) ≡ true) ⊎ (paneAt panes n .id ≡ id) →
+          (among id (groupTo panes test n) ≡ true → InGroup panes test n id) → InGroup panes test (suc n) id
+      last passed (inl before) later = wider (later before)
+      last passed (inr is) later = record { place = n; below = omega arith; passed = passed; is-id = is }
+
+      go :
+          (b : Bool) → test n ≡ b →
+          among id (if b then groupTo panes test n ++ (paneAt panes n .id ∷ []) else groupTo panes test n) ≡ true →
+          (among id (groupTo panes test n) ≡ true → InGroup panes test n id) → InGroup panes test (suc n) id
+      go true passed e later = last passed (among-last id (groupTo panes test n) (paneAt panes n .id) e) later
+      go false failed e later = wider (later e)
+
+  pub group-of-file :
+      (n k : ℕ) → k < length (groupTo panes test n) → InGroup panes test n (getD (groupTo panes test n) k 0)
+  group-of-file n k l =
+      let group : List ℕ = groupTo panes test n in
+      group-among n (getD group k 0)
+      (rw take-length at (among-found (getD group k 0) group k (length group) l (omega arith) refl))
+
+  pub group-once : {glasses : List Glass} → Rules glasses panes → (n : ℕ) → n ≤ length panes → Distinct (groupTo panes test n)
+  unfolding groupTo Distinct
+  group-once rules zero l = tt
+  group-once rules (suc n) l = go (test n) (group-once rules n (omega arith))
+    where
+      new : (b : Bool) → among (paneAt panes n .id) (groupTo panes test n) ≡ b → T (not b)
+      new true is =
+          let other = group-among n (paneAt panes n .id) is in
+          let same = same-pane rules (other .place) n (omega (arith, other .below)) l (other .is-id) in
+          absurd (omega (arith, other .below, same))
+      new false is = tt
+
+      go :
+          (b : Bool) → Distinct (groupTo panes test n) →
+          Distinct (if b then groupTo panes test n ++ (paneAt panes n .id ∷ []) else groupTo panes test n)
+      go true later = distinct-snoc (groupTo panes test n) (paneAt panes n .id) later (new _ refl)
+      go false later = later
+
+pub record Suited (panes : List Pane) (group : List ℕ) (glass : Glass) : Type 0 where
+  pub place : ℕ
+  pub of-file : place < length panes
+  pub listed : among (paneAt panes place .id) group ≡ true
+  pub passing : passes (paneAt panes place) glass ≡ true
+
+pub suits-one :
+    (panes : List Pane) (group : List ℕ) (glass : Glass) →
+    suitsOne panes group glass ≡ true → Suited panes group glass
+unfolding suitsOne
+suits-one [] group glass e = clash (cc)
+suits-one (p ∷ ps) group glass e =
+    go (among (p .id) group) (passes p glass) refl refl e (suits-one ps group glass)
+  where
+    further : Suited ps group glass → Suited (p ∷ ps) group glass
+    further s = record {
+      place = suc (s .place);
+      of-file = omega (arith, s .of-file);
+      listed = s .listed;
+      passing = s .passing;
+    }
+
+    go :
+        (a b : Bool) → among (p .id) group ≡ a → passes p glass ≡ b → ((a && b) || suitsOne ps group glass) ≡ true →
+        (suitsOne ps group glass ≡ true → Suited ps group glass) → Suited (p ∷ ps) group glass
+    go true true listed passing e later =
+        record { place = 0; of-file = omega arith; listed = listed; passing = passing }
+    go true false listed passing e later = further (later e)
+    go false b listed passing e later = further (later e)
