@@ -2,6 +2,7 @@
 --     promised-refusal    the file is refused
 --     promised-short      a lent list is shorter than the number of panes
 --     promised-glazed     neither
+--     glazed-of           what the promise says then
 use Prim.Native.Nat.{ℕ, _≤_, _<_}
 use mathlib.Core.Path.{_≡_, refl}
 use mathlib.Core.Logic.{_⊎_, inl, inr}
@@ -14,7 +15,7 @@ use Rattle.job_glass.specs.declared.Glass.{Glass}
 use Rattle.job_pane.specs.declared.Pane.{Pane}
 use Rattle.job_file.specs.File.{Outcome, accepted, refused}
 use Rattle.placing.specs.Placing.{stocksOf}
-use Rattle.placing.specs.Promise.{Says, refuses, call, Refusal, Glazed, Promised}
+use Rattle.placing.specs.Promise.{Says, refuses, Call, call, Refusal, Glazed, Promised}
 
 module _ (o : Outcome) (answers group : List ℕ) where
   kept : (number offset : ℕ) → Refusal number offset (call (refuses number offset) answers answers group group)
@@ -46,3 +47,16 @@ module _ (o : Outcome) (answers group : List ℕ) where
     unfolding Promised
     promised-glazed result answers-after group-after l k g =
         rw (is, Promised, le-ltb (length answers) (length panes) l, le-ltb (length group) (length panes) k) g
+
+pub glazed-of :
+    (o : Outcome) (glasses : List Glass) (panes : List Pane) (c : Call) → o ≡ accepted glasses panes →
+    length panes ≤ length (c .answers) → length panes ≤ length (c .group) → Promised o c →
+    Glazed glasses (stocksOf glasses) panes c
+unfolding Promised
+glazed-of o glasses panes c is l k p =
+    rw (
+      is,
+      Promised,
+      le-ltb (length (c .answers)) (length panes) l,
+      le-ltb (length (c .group)) (length panes) k,
+    ) at p

@@ -1,0 +1,4 @@
+-- The job of (j): which answers keep the promise.
+pub mod JobJ
+-- The bench examples, all of them.
+pub mod Examples

@@ -1,0 +1,2 @@
+-- The bench examples (a) to (j).
+pub mod Examples
