@@ -1,4 +1,2 @@
--- Laws of sums, counts and tests.
-pub mod Ranges
 -- Laws of sets of glasses.
 pub mod Members

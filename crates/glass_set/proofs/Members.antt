@@ -9,6 +9,8 @@
 --     within-at, within-of   a set is within another where every glass of it is in the other
 --     within-not             it is not where a glass of it is not in the other
 --     within-minus           it is where no glass of it is left without the other's
+--     within-trans           within a set that is within a third
+--     within-out             a glass that is not in the greater set is not in the smaller
 --     unvisited-le           a set with every glass of another leaves at most as many
 --     unvisited-less         with one glass more, it leaves fewer
 use Prim.Native.Nat.{ℕ, zero, suc, _-_, _*_, _/_, _%_, _^_, _≤_, _<_}
@@ -22,9 +24,12 @@ use lib.Bits.{bitAnd, bitOr, and-shr, and-mod, or-shr, or-mod, shifted-half, shi
 use lib.Count.{trailingZeros, under}
 use lib.Dec.{eqb, eqb·zero-suc, eqb·suc-zero, eqb·suc-suc}
 use lib.Pow.{shr-shr, shl-exact}
-use Rattle.job_line.specs.Bytes.{if_then_else_}
-use Rattle.glass_set.specs.Member.{has, Members, within, unvisited}
-use Rattle.glass_set.proofs.Ranges.{sum-le, sum-less, all-at, all-of, all-not}
+use Rattle.ranges.specs.Ranges.{one}
+use Rattle.ranges.proofs.Tests.{differ}
+use Rattle.ranges.proofs.Sums.{sum-le, sum-less}
+use Rattle.ranges.proofs.Counts.{one-le}
+use Rattle.ranges.proofs.All.{all-at, all-of, all-not}
+use Rattle.glass_set.specs.Member.{has, Members, Within, isWithin, unvisited}
 
 -- What holds of 0 and of 1 holds of a number's lowest digit.
 on-digit : (P : ℕ → Type 0) → P 0 → P 1 → (n : ℕ) → P (n % 2)
@@ -105,27 +110,27 @@ first-has (suc k) set some l = go (set % 2) refl (λ rest. first-has k (set / 2)
     go (suc zero) e later = (omega arith, has-first set ∙ rw e)
     go (suc (suc d)) e later = absurd (omega arith)
 
-pub within-at : (a b g : ℕ) → within a b ≡ true → g < 64 → has a g ≡ true → has b g ≡ true
-within-at a b g all l is = rw is at (all-at (λ i. not (has a i) || has b i) 64 all g l)
+pub within-at : (a b : ℕ) → isWithin a b ≡ true → Within a b
+within-at a b all g l is = rw is at (all-at (λ i. not (has a i) || has b i) 64 all g l)
 
-pub within-of : (a b : ℕ) → ((g : ℕ) → g < 64 → has a g ≡ true → has b g ≡ true) → within a b ≡ true
+pub within-of : (a b : ℕ) → Within a b → isWithin a b ≡ true
 within-of a b h = all-of (λ g. not (has a g) || has b g) 64 (λ g l. implied (has a g) (has b g) (h g l))
   where
     implied : (p q : Bool) → (p ≡ true → q ≡ true) → (not p || q) ≡ true
     implied true q h = h refl
     implied false q h = refl
 
-pub within-not : (a b g : ℕ) → g < 64 → has a g ≡ true → has b g ≡ false → within a b ≡ false
+pub within-not : (a b g : ℕ) → g < 64 → has a g ≡ true → has b g ≡ false → isWithin a b ≡ false
 within-not a b g l is isNot = all-not (λ i. not (has a i) || has b i) 64 g l (rw (is, isNot))
 
-pub within-minus : (r a b : ℕ) → r < 2 ^ 64 → Members r (λ g. has a g && not (has b g)) → eqb r 0 ≡ within a b
+pub within-minus : (r a b : ℕ) → r < 2 ^ 64 → Members r (λ g. has a g && not (has b g)) → eqb r 0 ≡ isWithin a b
 within-minus r a b l h = go (eqb r 0) refl
   where
     apart : (p q : Bool) → (p && not q) ≡ true → (p ≡ true) × (q ≡ false)
     apart true q e = (refl, not-true q e)
     apart false q e = (e, cc)
 
-    go : (t : Bool) → eqb r 0 ≡ t → t ≡ within a b
+    go : (t : Bool) → eqb r 0 ≡ t → t ≡ isWithin a b
     go true e =
         let empty : (g : ℕ) → has r g ≡ false = λ g. ap (λ (x : ℕ). has x g) (eqb-true r 0 e) ∙ has-none g in
         sym (within-of a b (λ g k is. not-false (has b g) (sym (rw is at (h g k)) ∙ empty g)))
@@ -135,20 +140,28 @@ within-minus r a b l h = go (eqb r 0) refl
         let only = apart (has a g) (has b g) (sym (h g (found .0)) ∙ found .1) in
         sym (within-not a b g (found .0) (only .0) (only .1))
 
--- 1 for a glass that is not in a set, 0 for one that is.
+pub within-trans : (a b c : ℕ) → Within a b → Within b c → Within a c
+within-trans a b c f g i l e = g i l (f i l e)
+
+pub within-out : (a b g : ℕ) → Within a b → g < 64 → has b g ≡ false → has a g ≡ false
+within-out a b g f l out = go (has a g) refl
+  where
+    go : (x : Bool) → has a g ≡ x → x ≡ false
+    go true e = differ (f g l e) out
+    go false e = refl
+
+-- What a glass adds to those that are not in a set.
 abbrev missing : ℕ → ℕ → ℕ
-missing set g = if not (has set g) then 1 else 0
+missing set g = one (not (has set g))
 
-missing-le : (p q : Bool) → (p ≡ true → q ≡ true) → (if not q then 1 else 0) ≤ (if not p then 1 else 0)
-missing-le true q h = rw (h refl) (omega arith)
-missing-le false true h = omega arith
-missing-le false false h = omega arith
+missing-le : (a b g : ℕ) → Within a b → g < 64 → missing b g ≤ missing a g
+missing-le a b g f l =
+    one-le (not (has b g)) (not (has a g)) (λ e. rw (within-out a b g f l (not-true (has b g) e)))
 
-pub unvisited-le : (a b : ℕ) → ((g : ℕ) → g < 64 → has a g ≡ true → has b g ≡ true) → unvisited b ≤ unvisited a
-unvisited-le a b h = sum-le (missing b) (missing a) 64 (λ g l. missing-le (has a g) (has b g) (h g l))
+pub unvisited-le : (a b : ℕ) → Within a b → unvisited b ≤ unvisited a
+unvisited-le a b f = sum-le (missing b) (missing a) 64 (λ g l. missing-le a b g f l)
 
 pub unvisited-less :
-    (a b g : ℕ) → g < 64 → has a g ≡ false → has b g ≡ true →
-    ((i : ℕ) → i < 64 → has a i ≡ true → has b i ≡ true) → unvisited b < unvisited a
-unvisited-less a b g l isNot is h =
-    sum-less (missing b) (missing a) 64 g l (λ i k. missing-le (has a i) (has b i) (h i k)) (rw (is, isNot) (omega arith))
+    (a b g : ℕ) → g < 64 → has a g ≡ false → has b g ≡ true → Within a b → unvisited b < unvisited a
+unvisited-less a b g l out is f =
+    sum-less (missing b) (missing a) 64 g l (λ i k. missing-le a b i f k) (rw (is, out) (omega arith))

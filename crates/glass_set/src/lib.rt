@@ -4,15 +4,7 @@ ghost use mathlib.Core.Path.{_≡_};
 ghost use mathlib.Core.Bool.{true, not, _&&_, _||_};
 ghost use Prim.Native.Nat.{_<_};
 ghost use lib.Dec.{eqb};
-ghost use Rattle.glass_set.specs.Member.{has, Members, within};
-
-// Whether a glass is in a set.
-pub fn contains(set: u64, glass: usize) -> bool
-    requires { ⌜ glass < 64 ⌝ }
-    ensures { λ r. ⌜ r ≡ has set glass ⌝ }
-{
-    (set >> glass) & 1 == 1
-}
+ghost use Rattle.glass_set.specs.Member.{has, Members, isWithin};
 
 // A set with one glass more.
 pub fn with(set: u64, glass: usize) -> u64
@@ -54,7 +46,7 @@ pub fn first(set: u64) -> usize
 
 // Whether every glass of a set is in another.
 pub fn is_within(set: u64, other: u64) -> bool
-    ensures { λ r. ⌜ r ≡ within set other ⌝ }
+    ensures { λ r. ⌜ r ≡ isWithin set other ⌝ }
 {
     minus(set, other) == 0
 }

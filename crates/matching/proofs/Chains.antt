@@ -1,5 +1,5 @@
 -- Laws of the search, one for each way through `serve` and `free`: what the calls below leave is what the call leaves.
---     within-trans, unseen-back        sets that grow
+--     unseen-back, within-with         sets that grow
 --     grown-none, grown-more           a set that has grown by exhausted glasses
 --     serve-spare                      a spare sheet is taken
 --     serve-moved                      another pane has left a glass
@@ -9,57 +9,30 @@
 use Prim.Native.Nat.{ℕ, zero, suc, _+_, _<_}
 use mathlib.Core.Path.{_≡_, refl, ap, sym, subst, subst⁻¹, _∙_}
 use mathlib.Core.Logic.{_⊎_, inl, inr}
-use mathlib.Core.Bool.{Bool, true, false, not, _&&_, _||_}
+use mathlib.Core.Bool.{Bool, true, false, _||_, or-true}
 use mathlib.Core.List.{List}
 use native.Mathlib.Omega.{arith}
 use lib.Dec.{eqb}
 use lib.ListN.{length, getD, set}
 use lib.Seq.{getD-set-same, getD-set-other}
 use borrow.Author.Tests.{eq-eqb, ne-eqb}
-use Rattle.job_line.specs.Bytes.{if_then_else_}
-use Rattle.glass_set.specs.Ranges.{countTo}
-use Rattle.glass_set.specs.Member.{has, Members}
-use Rattle.glass_set.proofs.Ranges.{sum-at}
+use Rattle.ranges.specs.Ranges.{one}
+use Rattle.ranges.proofs.Tests.{differ, same-or-not}
+use Rattle.ranges.proofs.Sums.{sum-at}
+use Rattle.glass_set.specs.Member.{has, Members, Within}
+use Rattle.glass_set.proofs.Members.{within-trans, within-out}
 use Rattle.matching.specs.declared.search.Search.{Search}
 use Rattle.matching.specs.declared.search.Search.the-variants.{Moved, Stuck}
-use Rattle.matching.specs.Steps.{Within, Unseen, holding, Exhausted, Grown, Move, stays, moves, Chain, Servable, Served, NotServed, Serves, Freed, NotFreed, Frees}
-
--- Two numbers are equal or not.
-pub same-or-not : (a b : ℕ) → (a ≡ b) ⊎ (a ≡ b → ⊥)
-same-or-not zero zero = inl refl
-same-or-not zero (suc b) = inr (λ e. omega (arith, e))
-same-or-not (suc a) zero = inr (λ e. omega (arith, e))
-same-or-not (suc a) (suc b) = go (same-or-not a b)
-  where
-    go : (a ≡ b) ⊎ (a ≡ b → ⊥) → (suc a ≡ suc b) ⊎ (suc a ≡ suc b → ⊥)
-    go (inl e) = inl (ap suc e)
-    go (inr n) = inr (λ e. n (omega (arith, e)))
-
-pub clash : {A : Type 0} {b : Bool} → b ≡ true → b ≡ false → A
-clash e f = let z : _≡_ {A = ℕ} 0 1 = cc in absurd (omega arith)
+use Rattle.matching.specs.Steps.{Unseen, holding, Exhausted, Grown, Move, stays, moves, Chain, Servable, Served, NotServed, Serves, Freed, NotFreed, Frees}
 
 -- ---- sets that grow
 
-pub within-trans : (a b c : ℕ) → Within a b → Within b c → Within a c
-within-trans a b c f g i l e = g i l (f i l e)
-
-not-in : (a b g : ℕ) → Within a b → g < 64 → has b g ≡ false → has a g ≡ false
-not-in a b g f l out = go (has a g) refl
-  where
-    go : (x : Bool) → has a g ≡ x → x ≡ false
-    go true e = clash (f g l e) out
-    go false e = refl
-
 pub unseen-back : (a b g : ℕ) → Within a b → Unseen b g → Unseen a g
-unseen-back a b g f u = record { below = u .below; out = not-in a b g f (u .below) (u .out) }
+unseen-back a b g f u = record { below = u .below; out = within-out a b g f (u .below) (u .out) }
 
 -- A set with one glass more.
 pub within-with : (a b glass : ℕ) → Members b (λ g. eqb g glass || has a g) → Within a b
-within-with a b glass m g l e = m g l ∙ rw e (either (eqb g glass))
-  where
-    either : (x : Bool) → (x || true) ≡ true
-    either true = refl
-    either false = refl
+within-with a b glass m g l e = m g l ∙ rw e (or-true (eqb g glass))
 
 module _ (rows held : List ℕ) (spare : ℕ) where
   exhausted-more : (a b g : ℕ) → Within a b → Exhausted rows held spare a g → Exhausted rows held spare b g
@@ -69,7 +42,7 @@ module _ (rows held : List ℕ) (spare : ℕ) where
   }
 
   pub grown-none : (seen : ℕ) → Grown rows held spare seen seen
-  grown-none seen = record { keeps = λ g l e. e; exhausted = λ g l e f. clash e f }
+  grown-none seen = record { keeps = λ g l e. e; exhausted = λ g l e f. differ e f }
 
   pub grown-more :
       (seen mid now : ℕ) → Grown rows held spare seen mid → Grown rows held spare mid now → Grown rows held spare seen now
@@ -89,13 +62,13 @@ module _ (rows held : List ℕ) (spare : ℕ) where
 -- The panes that hold each glass, after one pane was given another.
 holding-set :
     (rows held : List ℕ) (pane glass : ℕ) → length held ≡ length rows → pane < length rows → (g : ℕ) →
-    holding rows (set held pane glass) g + (if eqb (getD held pane 0) g then 1 else 0)
-    ≡ holding rows held g + (if eqb glass g then 1 else 0)
+    holding rows (set held pane glass) g + one (eqb (getD held pane 0) g)
+    ≡ holding rows held g + one (eqb glass g)
 holding-set rows held pane glass long l g =
-    sum-at (λ p. if eqb (getD (set held pane glass) p 0) g then 1 else 0) (λ p. if eqb (getD held p 0) g then 1 else 0)
+    sum-at (λ p. one (eqb (getD (set held pane glass) p 0) g)) (λ p. one (eqb (getD held p 0) g))
     (length rows) pane l
-    (λ p k other. ap (λ (x : ℕ). if eqb x g then 1 else 0) (getD-set-other held pane p glass 0 other))
-    ∙ ap (λ (x : ℕ). holding rows held g + (if eqb x g then 1 else 0)) (getD-set-same held pane glass 0 (omega arith))
+    (λ p k other. ap (λ (x : ℕ). one (eqb x g)) (getD-set-other held pane p glass 0 other))
+    ∙ ap (λ (x : ℕ). holding rows held g + one (eqb x g)) (getD-set-same held pane glass 0 (omega arith))
 
 module _ (rows before : List ℕ) (pane spare seen : ℕ) where
   -- A spare sheet of an unseen glass is taken.

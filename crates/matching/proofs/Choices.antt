@@ -6,25 +6,12 @@ use Prim.Native.Nat.{ℕ, _<_}
 use mathlib.Core.Path.{_≡_, refl, sym, _∙_}
 use mathlib.Core.Bool.{Bool, true, false, not, _&&_, _||_}
 use lib.Dec.{eqb}
-use borrow.Author.Tests.{eq-eqb}
-use Rattle.glass_set.specs.Member.{has, Members, unvisited}
+use borrow.Author.Tests.{eq-eqb, not-true}
+use Rattle.ranges.proofs.Tests.{differ, both-true}
+use Rattle.glass_set.specs.Member.{has, Members, Within, unvisited}
 use Rattle.glass_set.proofs.Members.{has-none, unvisited-less}
-use Rattle.matching.specs.Steps.{Within, Unseen}
-use Rattle.matching.proofs.Chains.{clash, within-with}
-
--- Both of two tests, or neither.
-both-true : (a b : Bool) → (a && b) ≡ true → (a ≡ true) × (b ≡ true)
-both-true true true e = (refl, refl)
-both-true true false e = clash e refl
-both-true false b e = clash e refl
-
-not-true : (a : Bool) → not a ≡ true → a ≡ false
-not-true true e = clash e refl
-not-true false e = refl
-
-second-false : (a b : Bool) → a ≡ true → (a && b) ≡ false → b ≡ false
-second-false true b e f = f
-second-false false b e f = clash e refl
+use Rattle.matching.specs.Steps.{Unseen}
+use Rattle.matching.proofs.Chains.{within-with}
 
 -- What is left of a row outside a set.
 module _ (row set rest : ℕ) (is : Members rest (λ g. has row g && not (has set g))) where
@@ -40,7 +27,7 @@ module _ (row set rest : ℕ) (is : Members rest (λ g. has row g && not (has se
       go true out = refl
       go false out =
           let in-rest : has rest g ≡ true = is g l ∙ rw (e, out) in
-          clash in-rest (rw none (has-none g))
+          differ in-rest (rw none (has-none g))
 
 -- The glasses of a row that have a sheet to spare, outside a set.
 module _ (row spare seen some at-hand-set : ℕ) (both : Members some (λ g. has row g && has spare g))
@@ -57,7 +44,7 @@ module _ (row spare seen some at-hand-set : ℕ) (both : Members some (λ g. has
     where
       go : (x : Bool) → has spare g ≡ x → x ≡ false
       go true s =
-          clash (rest-none some seen at-hand-set is none g (u .below) (both g (u .below) ∙ rw (e, s))) (u .out)
+          differ (rest-none some seen at-hand-set is none g (u .below) (both g (u .below) ∙ rw (e, s))) (u .out)
       go false s = refl
 
 -- A set with one glass more.

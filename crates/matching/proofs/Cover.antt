@@ -13,10 +13,11 @@ use native.Mathlib.Omega.{arith}
 use lib.Dec.{ltb}
 use borrow.Author.Tests.{ltb-true, ltb-false}
 use Rattle.job_line.specs.Bytes.{if_then_else_}
-use Rattle.glass_set.specs.Ranges.{sumTo, countTo}
-use Rattle.glass_set.proofs.Ranges.{sum-le, sum-add, all-at}
+use Rattle.ranges.specs.Ranges.{sumTo, one, countTo}
+use Rattle.ranges.proofs.Sums.{sum-le, sum-add, sum-le-some}
+use Rattle.ranges.proofs.Counts.{one-le, count-not, count-by}
+use Rattle.ranges.proofs.All.{all-at}
 use Rattle.matching.specs.Matching.{Task, given, served, Matching, confined, sheetsOf, Greatest}
-use Rattle.matching.proofs.Sums.{one, sum-le-some, count-not, count-by}
 
 -- What a search that has ended leaves: some glasses, all of whose sheets are given, such that every pane that has one of them,
 -- and every pane that has none, can have no other.
@@ -72,10 +73,6 @@ module _ (t : Task) (some : ℕ → Bool) (way : ℕ → ℕ) where
       stock : sheetsOf t some ≤ givenOf
       stock = sum-le-some some (t .sheets) (given t way) (t .glasses) (λ g l is. omega (arith, c .all-given g l is))
 
-      one-le : (b : Bool) → one b ≤ 1
-      one-le true = omega arith
-      one-le false = omega arith
-
       share-le-served : (p : ℕ) → p < t .panes → share p ≤ one (ltb (way p) (t .glasses))
       share-le-served p l = go (ltb (way p) (t .glasses)) (some (way p)) refl refl
         where
@@ -84,7 +81,7 @@ module _ (t : Task) (some : ℕ → Bool) (way : ℕ → ℕ) where
               one (a && b) + one (not (confined t some p)) ≤ one a
           go false b has is = rw (c .left-over p l (λ k. omega (arith, ltb-false (way p) (t .glasses) has))) (omega arith)
           go true true has is = rw (c .holders p l (ltb-true (way p) (t .glasses) has) is) (omega arith)
-          go true false has is = omega (arith, one-le (not (confined t some p)))
+          go true false has is = omega (arith, one-le (not (confined t some p)) true (λ e. refl))
 
 pub greatest-of :
     (t : Task) (tight : ℕ → Bool) (glassOf : ℕ → ℕ) → Matching t glassOf →

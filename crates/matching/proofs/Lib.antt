@@ -1,5 +1,4 @@
 -- No matching serves more than the sheets of some glasses and the panes that need none of them.
-pub mod Sums
 pub mod Cover
 -- The search: one law for each way through it.
 pub mod Chains

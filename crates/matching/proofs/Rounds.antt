@@ -17,14 +17,15 @@ use lib.ListN.{length, getD, set, length-set}
 use lib.Seq.{getD-set-same, getD-set-other}
 use borrow.Author.Tests.{eq-eqb, ne-eqb, lt-ltb, le-ltb, ltb-true, ltb-false}
 use Rattle.job_line.specs.Bytes.{if_then_else_}
-use Rattle.glass_set.specs.Ranges.{countTo}
-use Rattle.glass_set.specs.Member.{has, Members}
-use Rattle.glass_set.proofs.Ranges.{sum-zero, all-of}
+use Rattle.ranges.specs.Ranges.{one}
+use Rattle.ranges.proofs.Tests.{differ, same-or-not}
+use Rattle.ranges.proofs.Sums.{sum-zero}
+use Rattle.glass_set.specs.Member.{has, Members, Within}
+use Rattle.glass_set.proofs.Members.{within-trans, within-of}
 use Rattle.matching.specs.Matching.{Task, Matching, Greatest, confined}
 use Rattle.matching.specs.Rows.{taskOf, wayOf}
-use Rattle.matching.specs.Steps.{Within, Unseen, holding, Grown, Move, stays, moves, Chain, Servable, Served, NotServed}
+use Rattle.matching.specs.Steps.{Unseen, holding, Grown, Move, stays, moves, Chain, Servable, Served, NotServed}
 use Rattle.matching.proofs.Cover.{greatest-of}
-use Rattle.matching.proofs.Chains.{same-or-not, clash, within-trans}
 
 -- A glass that is one of the 64 and in a set.
 pub record Held (set g : ℕ) : Type 0 where
@@ -47,7 +48,7 @@ pub record Standing (rows sheets held left : List ℕ) (spare tight next : ℕ) 
 -- No pane holds a glass where every pane waits.
 none-held : (rows held : List ℕ) → ((p : ℕ) → p < length rows → getD held p 0 ≡ 64) → (g : ℕ) → g < 64 → holding rows held g ≡ 0
 none-held rows held none g l =
-    sum-zero (λ p. if eqb (getD held p 0) g then 1 else 0) (length rows)
+    sum-zero (λ p. one (eqb (getD held p 0) g)) (length rows)
     (λ p k. rw (none p k, ne-eqb 64 g (λ e. omega (arith, e))))
 
 pub standing-first :
@@ -61,8 +62,8 @@ standing-first rows sheets held spare long all none spares empty = record {
   spares = spares;
   passing = λ p l. inl (none p l);
   waiting = λ p k l. none p l;
-  all-given = λ g l e. clash e (empty g);
-  holders = λ p l h. clash (h .in-set) (empty (getD held p 0));
+  all-given = λ g l e. differ e (empty g);
+  holders = λ p l h. differ (h .in-set) (empty (getD held p 0));
   left-over = λ p l k e. absurd (omega arith);
 }
 
@@ -118,7 +119,7 @@ module _ (rows sheets held left : List ℕ) (spare tight next : ℕ) (s : Standi
         holding rows after g + getD (set left last (getD left last 0 - 1)) g 0 ≡ getD sheets g 0
     counted-after g l = go (same-or-not g last)
       where
-        counts : holding rows after g ≡ holding rows held g + (if eqb last g then 1 else 0)
+        counts : holding rows after g ≡ holding rows held g + one (eqb last g)
         counts =
             let c = m .chain .counts g in
             let c′ = rw (waits, ne-eqb 64 g (λ e. omega (arith, e))) at c in
@@ -185,12 +186,12 @@ module _ (rows sheets held left : List ℕ) (spare tight next : ℕ) (s : Standi
         full g l e = go (same-or-not g last)
           where
             go : (g ≡ last) ⊎ (g ≡ last → ⊥) → getD (set left last (getD left last 0 - 1)) g 0 ≡ 0
-            go (inl same) = clash (ap (has tight) (sym same) ∙ e) (m .chain .last-unseen .out)
+            go (inl same) = differ (ap (has tight) (sym same) ∙ e) (m .chain .last-unseen .out)
             go (inr other) = getD-set-other left last g (getD left last 0 - 1) 0 other ∙ s .all-given g l e
 
         kept : (p : ℕ) → p < length rows → Held tight (getD after p 0) → Moved p → Within (getD rows p 0) tight
         kept p l h (stays e) = s .holders p l (rw e at h)
-        kept p l h (moves from to e) = clash (h .in-set) (to .out)
+        kept p l h (moves from to e) = differ (h .in-set) (to .out)
 
         over : (p : ℕ) → p < next + 1 → p < length rows → getD after p 0 ≡ 64 → Moved p → (p ≡ next) ⊎ (p ≡ next → ⊥) → Within (getD rows p 0) tight
         over p l k e m′ (inl same) = absurd (omega (arith, rw same at e, m .has-unseen .below))
@@ -210,8 +211,8 @@ standing-last rows sheets held left spare tight next end s =
     (λ p l. or-none p (s .passing p l))
     (record {
       all-given = λ g l e. omega (arith, s .counted g l, s .all-given g l e);
-      holders = λ p l k e. row-in p (s .holders p l (record { below = k; in-set = e }));
-      left-over = λ p l none. row-in p (s .left-over p (omega arith) l (without p none (s .passing p l)));
+      holders = λ p l k e. within-of (getD rows p 0) tight (s .holders p l (record { below = k; in-set = e }));
+      left-over = λ p l none. within-of (getD rows p 0) tight (s .left-over p (omega arith) l (without p none (s .passing p l)));
     })
   where
     Suits : ℕ → Type 0
@@ -228,10 +229,3 @@ standing-last rows sheets held left spare tight next end s =
     without : (p : ℕ) → (getD held p 0 < 64 → ⊥) → Suits p → getD held p 0 ≡ 64
     without p none (inl e) = e
     without p none (inr h) = absurd (none (h .0))
-
-    row-in : (p : ℕ) → Within (getD rows p 0) tight → confined (taskOf rows sheets) (has tight) p ≡ true
-    row-in p w = all-of (λ g. not (has (getD rows p 0) g) || has tight g) 64 (λ g l. go g l (has (getD rows p 0) g) refl)
-      where
-        go : (g : ℕ) → g < 64 → (x : Bool) → has (getD rows p 0) g ≡ x → (not x || has tight g) ≡ true
-        go g l true e = w g l e
-        go g l false e = refl

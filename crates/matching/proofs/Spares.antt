@@ -12,9 +12,9 @@ use lib.Dec.{ltb, eqb}
 use lib.ListN.{getD}
 use borrow.Author.Tests.{eq-eqb, ne-eqb, lt-ltb, le-ltb}
 use Rattle.job_line.specs.Bytes.{if_then_else_}
+use Rattle.ranges.proofs.Tests.{same-or-not}
 use Rattle.glass_set.specs.Member.{has, Members}
 use Rattle.glass_set.proofs.Members.{has-none}
-use Rattle.matching.proofs.Chains.{same-or-not}
 
 pub record Counted (sheets : List ℕ) (spare next : ℕ) : Type 0 where
   pub done : (g : ℕ) → g < next → g < 64 → has spare g ≡ ltb 0 (getD sheets g 0)

@@ -5,7 +5,7 @@ use mathlib.Core.Path.{_≡_}
 use mathlib.Core.Bool.{Bool, true, not, _||_}
 use lib.Dec.{ltb, eqb}
 use Rattle.job_line.specs.Bytes.{if_then_else_}
-use Rattle.glass_set.specs.Ranges.{sumTo, countTo, allTo}
+use Rattle.ranges.specs.Ranges.{sumTo, countTo, allTo}
 
 -- What is to be placed, and from what.
 pub record Task : Type 0 where

@@ -7,15 +7,10 @@ use mathlib.Core.Bool.{true, false}
 use mathlib.Core.List.{List}
 use lib.Dec.{eqb}
 use lib.ListN.{length, getD}
-use Rattle.job_line.specs.Bytes.{if_then_else_}
-use Rattle.glass_set.specs.Ranges.{countTo}
-use Rattle.glass_set.specs.Member.{has}
+use Rattle.ranges.specs.Ranges.{one, countTo}
+use Rattle.glass_set.specs.Member.{has, Within}
 use Rattle.matching.specs.declared.search.Search.{Search}
 use Rattle.matching.specs.declared.search.Search.the-variants.{Moved, Stuck}
-
--- Every glass of a set is in another.
-abbrev pub Within : ℕ → ℕ → Type 0
-Within set other = (g : ℕ) → g < 64 → has set g ≡ true → has other g ≡ true
 
 -- A glass that may still be looked at.
 pub record Unseen (seen g : ℕ) : Type 0 where
@@ -49,7 +44,7 @@ pub record Chain (rows before after : List ℕ) (spare seen from last : ℕ) (Le
   pub last-spare : has spare last ≡ true
   pub counts :
       (g : ℕ) →
-      holding rows after g + (if eqb from g then 1 else 0) ≡ holding rows before g + (if eqb last g then 1 else 0)
+      holding rows after g + one (eqb from g) ≡ holding rows before g + one (eqb last g)
   pub each : (p : ℕ) → p < length rows → Move rows before after seen p (Leaves p)
 
 -- What `serve` asks: the pane holds no unseen glass.

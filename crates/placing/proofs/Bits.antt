@@ -7,7 +7,7 @@
 use Prim.Native.Nat.{ℕ, _+_, _≤_, _<_}
 use mathlib.Core.Path.{_≡_, refl, ap, sym, _∙_}
 use mathlib.Core.Logic.{_⊎_, inl, inr}
-use mathlib.Core.Bool.{Bool, true, false, _&&_, _||_}
+use mathlib.Core.Bool.{Bool, true, false, _&&_, _||_, and-true, and-false, or-false}
 use mathlib.Core.List.{List}
 use native.Mathlib.Nat.{eq-or-lt-of-le}
 use native.Mathlib.Omega.{arith}
@@ -18,19 +18,11 @@ use borrow.Author.Tests.{eq-eqb, ne-eqb, lt-ltb, le-ltb, ltb-true, ltb-false}
 use Rattle.job_glass.specs.GlassLine.{blankGlass}
 use Rattle.job_glass.specs.declared.Glass.{Glass}
 use Rattle.job_pane.specs.declared.Pane.{Pane}
+use Rattle.ranges.proofs.Tests.{same-or-not}
 use Rattle.glass_set.specs.Member.{has, Members}
 use Rattle.glass_set.proofs.Members.{has-none}
-use Rattle.matching.proofs.Chains.{same-or-not}
 use Rattle.placing.specs.Passing.{passes, paneAt, glassAt}
 use Rattle.placing.specs.Steps.{RowOf, RowsOf}
-
-and-true : (b : Bool) → (b && true) ≡ b
-and-true true = refl
-and-true false = refl
-
-and-false : (b : Bool) → (b && false) ≡ false
-and-false true = refl
-and-false false = refl
 
 module _ (row number : ℕ) (pass : Bool) where
   pub bit-passes :
@@ -52,10 +44,6 @@ pub row-next :
     Members more (λ g. (eqb g n && passes pane (glassAt glasses n)) || has row g) → RowTo pane glasses (n + 1) more
 row-next pane glasses n row more r is g l = is g l ∙ rw (r g l) (go (same-or-not g n))
   where
-    or-false : (b : Bool) → (b || false) ≡ b
-    or-false true = refl
-    or-false false = refl
-
     go :
         (g ≡ n) ⊎ (g ≡ n → ⊥) →
         ((eqb g n && passes pane (glassAt glasses n)) || (ltb g n && passes pane (glassAt glasses g)))

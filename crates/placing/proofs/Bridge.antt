@@ -15,17 +15,18 @@ use native.Mathlib.Omega.{arith}
 use lib.Dec.{ltb, eqb}
 use lib.ListN.{length, getD, length-map}
 use borrow.Author.Tests.{ltb-true, ltb-false, lt-ltb, ne-eqb}
-use Rattle.job_part.proofs.Kept.{clash}
 use Rattle.job_glass.specs.declared.Glass.{Glass}
 use Rattle.job_pane.specs.declared.Pane.{Pane}
 use Rattle.job_file.specs.Rules.{Rules}
+use Rattle.ranges.proofs.Tests.{both-true}
+use Rattle.ranges.proofs.Counts.{count-same}
 use Rattle.glass_set.specs.Member.{has}
 use Rattle.matching.specs.Matching.{given, served, Greatest}
 use Rattle.matching.specs.Rows.{taskOf, wayOf}
 use Rattle.placing.specs.Passing.{passes, paneAt, glassAt}
 use Rattle.placing.specs.Placing.{times, nonzero, PassingId, Placing, NoneToSpare}
 use Rattle.placing.specs.Steps.{idsOf}
-use Rattle.placing.proofs.Ids.{count-same, times-count, nonzero-count}
+use Rattle.placing.proofs.Ids.{times-count, nonzero-count}
 use Rattle.placing.proofs.Numbers.{few, id-of-file, id-past, glass-test}
 
 pub record Bridge (glasses : List Glass) (sheets : List ℕ) (panes : List Pane) (rows sheets64 : List ℕ) : Type 0 where
@@ -37,11 +38,6 @@ pub record Bridge (glasses : List Glass) (sheets : List ℕ) (panes : List Pane)
       (p g : ℕ) → p < length panes → g < 64 →
       has (getD rows p 0) g ≡ (ltb g (length glasses) && passes (paneAt panes p) (glassAt glasses g))
   pub sheets-are : (g : ℕ) → g < length glasses → getD sheets64 g 0 ≡ getD sheets g 0
-
-both : (a b : Bool) → (a && b) ≡ true → (a ≡ true) × (b ≡ true)
-both true true e = (refl, refl)
-both true false e = clash (cc)
-both false b e = clash (cc)
 
 map-at : (f : ℕ → ℕ) (xs : List ℕ) (i : ℕ) → i < length xs → getD (map f xs) i 0 ≡ f (getD xs i 0)
 map-at f [] i l = absurd (omega arith)
@@ -57,7 +53,7 @@ module _
         (p g : ℕ) → p < length panes → g < 64 → has (getD rows p 0) g ≡ true →
         (g < length glasses) × (passes (paneAt panes p) (glassAt glasses g) ≡ true)
     glass-of-bit p g l k set =
-        let is = both (ltb g (length glasses)) (passes (paneAt panes p) (glassAt glasses g)) (sym (b .bits p g l k) ∙ set) in
+        let is = both-true (ltb g (length glasses)) (passes (paneAt panes p) (glassAt glasses g)) (sym (b .bits p g l k) ∙ set) in
         (ltb-true g (length glasses) (is .0), is .1)
 
     pub bit-of-glass :

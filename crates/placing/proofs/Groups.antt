@@ -25,7 +25,7 @@ use Rattle.job_part.proofs.Members.{among-append, among-found}
 use Rattle.job_glass.specs.declared.Glass.{Glass}
 use Rattle.job_pane.specs.declared.Pane.{Pane}
 use Rattle.job_file.specs.Rules.{Rules}
-use Rattle.glass_set.specs.Ranges.{sumTo, countTo}
+use Rattle.ranges.specs.Ranges.{sumTo, countTo}
 use Rattle.placing.specs.Passing.{passes, paneAt}
 use Rattle.placing.specs.ShortGroup.{suitsOne}
 use Rattle.placing.specs.Steps.{groupTo}

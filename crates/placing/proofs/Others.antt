@@ -13,13 +13,14 @@ use lib.ListN.{length, getD}
 use borrow.Author.Tests.{ltb-true, ltb-false, lt-ltb, eqb-true, eqb-false, eq-eqb, ne-eqb, not-true}
 use Rattle.job_glass.specs.declared.Glass.{Glass}
 use Rattle.job_pane.specs.declared.Pane.{Pane}
+use Rattle.ranges.proofs.Counts.{count-fewer, count-none}
 use Rattle.glass_set.specs.Member.{has}
 use Rattle.matching.specs.Matching.{given, served, Matching, Greatest}
 use Rattle.matching.specs.Rows.{taskOf, wayOf}
 use Rattle.placing.specs.Passing.{paneAt, glassAt}
 use Rattle.placing.specs.Placing.{times, nonzero, PassingId, Placing, FullPlacing}
 use Rattle.placing.specs.Steps.{idsOf}
-use Rattle.placing.proofs.Ids.{count-fewer, count-none, times-count, nonzero-count, nonzero-le}
+use Rattle.placing.proofs.Ids.{times-count, nonzero-count, nonzero-le}
 use Rattle.placing.proofs.Numbers.{few, id-of-file, same-glass, placeOf, place-found, place-first}
 use Rattle.placing.proofs.Bridge.{Bridge, bit-of-glass, is-placing, placed-served}
 

@@ -6,7 +6,7 @@
 use Prim.Native.Nat.{ℕ, _≤_, _<_}
 use mathlib.Core.Path.{_≡_, refl}
 use mathlib.Core.Logic.{_⊎_, inl, inr}
-use mathlib.Core.Bool.{Bool, true, false, _||_}
+use mathlib.Core.Bool.{true, false, _||_, or-true}
 use mathlib.Core.List.{List}
 use lib.Dec.{ltb}
 use lib.ListN.{length}
@@ -34,10 +34,6 @@ module _ (o : Outcome) (answers group : List ℕ) where
     promised-short (inl l) = rw (is, Promised, lt-ltb (length answers) (length panes) l) (kept 9 0)
     promised-short (inr l) =
         rw (is, Promised, lt-ltb (length group) (length panes) l, or-true (ltb (length answers) (length panes))) (kept 9 0)
-      where
-        or-true : (b : Bool) → (b || true) ≡ true
-        or-true true = refl
-        or-true false = refl
 
     pub promised-glazed :
         (result : Says) (answers-after group-after : List ℕ) →

@@ -1,46 +1,31 @@
 -- Where a pane is left over, the panes whose passing glasses are all tight are a short group: a glass that suits one of them
 -- is tight, and the search promises that the tight glasses have fewer sheets than there are such panes.
 --     short-group    they are a short group
-use Prim.Native.Nat.{ℕ, zero, suc, _≤_, _<_}
+use Prim.Native.Nat.{ℕ, _≤_, _<_}
 use mathlib.Core.Path.{_≡_, refl, sym}
-use mathlib.Core.Logic.{_⊎_, inl, inr}
-use mathlib.Core.Bool.{Bool, true, false, not, _||_}
+use mathlib.Core.Bool.{Bool, true, false}
 use mathlib.Core.List.{List}
 use native.Mathlib.Omega.{arith}
-use native.Mathlib.Nat.{le-refl, le-trans, eq-or-lt-of-le}
+use native.Mathlib.Nat.{le-trans}
 use lib.ListN.{length, getD}
 use Rattle.job_line.specs.Bytes.{if_then_else_}
 use Rattle.job_glass.specs.declared.Glass.{Glass}
 use Rattle.job_pane.specs.declared.Pane.{Pane}
-use Rattle.glass_set.specs.Member.{has, within}
-use Rattle.glass_set.specs.Ranges.{sumTo}
-use Rattle.glass_set.proofs.Ranges.{sum-le, all-at}
+use Rattle.ranges.proofs.Sums.{sum-le, sum-wider}
+use Rattle.glass_set.specs.Member.{has, isWithin}
+use Rattle.glass_set.proofs.Members.{within-at}
 use Rattle.matching.specs.Matching.{sheetsOf, Greatest}
 use Rattle.matching.specs.Rows.{taskOf, wayOf}
 use Rattle.placing.specs.Passing.{paneAt, glassAt}
 use Rattle.placing.specs.Placing.{nonzero}
 use Rattle.placing.specs.ShortGroup.{suitsOne, sheetsFor, PaneId, ShortGroup}
-use Rattle.placing.specs.Steps.{idsOf, groupTo}
+use Rattle.placing.specs.Steps.{idsOf, groupTo, confinedTo}
 use Rattle.placing.proofs.Ids.{nonzero-le}
 use Rattle.placing.proofs.Numbers.{few, same-pane}
 use Rattle.placing.proofs.Bridge.{Bridge, bit-of-glass, is-placing, placed-served}
 use Rattle.placing.proofs.Groups.{InGroup, group-length, group-among, group-of-file, group-once, suits-one}
 
--- A sum to a greater bound is no smaller.
-sum-wider : (f : ℕ → ℕ) (m n : ℕ) → m ≤ n → sumTo f m ≤ sumTo f n
-unfolding sumTo
-sum-wider f zero zero l = le-refl 0
-sum-wider f (suc m) zero l = absurd (omega arith)
-sum-wider f m (suc n) l = go (eq-or-lt-of-le l) (sum-wider f m n)
-  where
-    go : (m ≡ suc n) ⊎ (m < suc n) → (m ≤ n → sumTo f m ≤ sumTo f n) → sumTo f m ≤ sumTo f (suc n)
-    go (inl e) later = rw e (le-refl (sumTo f (suc n)))
-    go (inr k) later = omega (arith, later (omega arith))
-
--- Whether every glass that passes for a pane is tight, by its row; the group of those panes.
-abbrev confinedTo : List ℕ → ℕ → ℕ → Bool
-confinedTo rows tight p = within (getD rows p 0) tight
-
+-- The group of the panes whose passing glasses are all tight.
 abbrev groupOf : List Pane → List ℕ → ℕ → List ℕ
 groupOf panes rows tight = groupTo panes (confinedTo rows tight) (length panes)
 
@@ -63,9 +48,9 @@ module _
           let m = group-among panes (confinedTo rows tight) (length panes) (paneAt panes (s .place) .id) (s .listed) in
           let same = same-pane (b .rules) (m .place) (s .place) (m .below) (s .of-file) (m .is-id) in
           let row = getD rows (s .place) 0 in
-          let all : within row tight ≡ true = rw same at (m .passed) in
+          let all : isWithin row tight ≡ true = rw same at (m .passed) in
           let set = bit-of-glass b (s .place) j (s .of-file) l (s .passing) in
-          rw set at (all-at (λ g. not (has row g) || has tight g) 64 all j (omega (arith, few (b .rules))))
+          within-at row tight all j (omega (arith, few (b .rules))) set
 
       -- So the group has no more sheets than the tight glasses have.
       sheets-fewer :
@@ -96,7 +81,7 @@ module _
 
         pub short-group :
             (nonzero (idsOf glasses held) ≡ length panes → ⊥) →
-            ShortGroup glasses sheets panes (groupTo panes (λ p. within (getD rows p 0) tight) (length panes))
+            ShortGroup glasses sheets panes (groupTo panes (confinedTo rows tight) (length panes))
         short-group left = record {
           not-empty = omega (arith, tight-short left);
           of-file = λ k l. of-file (group-of-file panes (confinedTo rows tight) (length panes) k l);

@@ -9,12 +9,13 @@ use mathlib.Core.Path.{_≡_, refl, ap, sym, subst, subst⁻¹, _∙_}
 use mathlib.Core.Bool.{true, false}
 use mathlib.Core.List.{List}
 use lib.ListN.{length, getD, set, length-set}
+use Rattle.ranges.proofs.Tests.{differ}
 use Rattle.glass_set.specs.Member.{has, unvisited}
 use Rattle.matching.specs.Steps.{Grown}
 use Rattle.glass_set.proofs.Members.{unvisited-le}
 use Rattle.matching.specs.declared.search.Search.{Search}
 use Rattle.matching.specs.Steps.{Unseen, NotFreed}
-use Rattle.matching.proofs.Chains.{clash, unseen-back, grown-none, serve-spare, serve-moved, serve-on, free-moved, Passed, free-other, free-on, served-of, not-served-of, freed-of, not-freed-of}
+use Rattle.matching.proofs.Chains.{unseen-back, grown-none, serve-spare, serve-moved, serve-on, free-moved, Passed, free-other, free-on, served-of, not-served-of, freed-of, not-freed-of}
 use Rattle.matching.proofs.Choices.{at-hand, none-at-hand, rest-at, rest-none, now-marked, fewer}
 use denote.Ref.{now}
 use Rattle.matching.proofs.search.free.Reads as free
@@ -100,7 +101,7 @@ free-serve-requires t c κs =
         same-length = ap length (inv .0) ∙ s .pre .1 .same-length;
         of-rows = omega arith;
         settled = λ u.
-            clash
+            differ
             (keeps (s .args .glass) (s .pre .1 .below) (s .pre .1 .marked))
             (ap (has (l .loop .marked)) (sym (c .before .if1 .taken)) ∙ u .out);
       },

@@ -8,9 +8,13 @@ unfoldable pub sumTo : (ℕ → ℕ) → ℕ → ℕ
 sumTo f zero = 0
 sumTo f (suc n) = sumTo f n + f n
 
+-- What a test adds to a count.
+abbrev pub one : Bool → ℕ
+one passed = if passed then 1 else 0
+
 -- How many of the numbers below n pass a test.
 abbrev pub countTo : (ℕ → Bool) → ℕ → ℕ
-countTo test n = sumTo (λ i. if test i then 1 else 0) n
+countTo test n = sumTo (λ i. one (test i)) n
 
 -- Whether every number below n passes a test.
 unfoldable pub allTo : (ℕ → Bool) → ℕ → Bool

@@ -1,30 +1,41 @@
--- Laws of sums and counts that the placing needs.
---     one            what a test adds to a count
---     sum-le-some    smaller term by term, where only some terms count
---     count-not      a count and the count of the rest are the bound
---     count-by       the numbers that have one of some values below a bound, counted value by value
+-- Laws of counts over the numbers below a bound.
+--     one-le                     a test adds at most 1, and no more than a test that passes wherever it does
+--     count-le                   a count is at most the bound
+--     count-same, count-fewer    two tests that agree; a test that passes only where another does
+--     count-none                 a test that no number passes
+--     count-not                  a count and the count of the rest are the bound
+--     count-by                   the numbers that have one of some values below a bound, counted value by value
 use Prim.Native.Nat.{ℕ, zero, suc, _+_, _≤_, _<_}
-use mathlib.Core.Path.{_≡_, refl, sym, _∙_}
+use mathlib.Core.Path.{_≡_, refl, ap, sym, _∙_}
 use mathlib.Core.Logic.{_⊎_, inl, inr}
 use mathlib.Core.Bool.{Bool, true, false, not, _&&_, and-true, and-false}
+use native.Mathlib.Nat.{le-refl}
 use native.Mathlib.Omega.{arith}
 use lib.Dec.{ltb, eqb}
 use borrow.Author.Tests.{ltb-true, ltb-false, lt-ltb, le-ltb, eq-eqb, ne-eqb}
 use Rattle.job_line.specs.Bytes.{if_then_else_}
-use Rattle.glass_set.specs.Ranges.{sumTo, countTo}
-use Rattle.glass_set.proofs.Ranges.{last-or-below, sum-cong, sum-le, sum-add}
+use Rattle.ranges.specs.Ranges.{sumTo, one, countTo}
+use Rattle.ranges.proofs.Tests.{last-or-below}
+use Rattle.ranges.proofs.Sums.{sum-zero, sum-cong, sum-le, sum-add}
 
-abbrev pub one : Bool → ℕ
-one b = if b then 1 else 0
+pub one-le : (a b : Bool) → (a ≡ true → b ≡ true) → one a ≤ one b
+one-le true b h = rw (h refl) (le-refl 1)
+one-le false b h = omega arith
 
-pub sum-le-some :
-    (some : ℕ → Bool) (f g : ℕ → ℕ) (n : ℕ) → ((i : ℕ) → i < n → some i ≡ true → f i ≤ g i) →
-    sumTo (λ i. if some i then f i else 0) n ≤ sumTo (λ i. if some i then g i else 0) n
-sum-le-some some f g n h = sum-le _ _ n (λ i l. go i (some i) (h i l))
-  where
-    go : (i : ℕ) (b : Bool) → (b ≡ true → f i ≤ g i) → (if b then f i else 0) ≤ (if b then g i else 0)
-    go i true h = h refl
-    go i false h = omega arith
+pub count-le : (test : ℕ → Bool) (n : ℕ) → countTo test n ≤ n
+unfolding sumTo
+count-le test zero = omega arith
+count-le test (suc n) = omega (arith, count-le test n, one-le (test n) true (λ e. refl))
+
+module _ (test other : ℕ → Bool) (n : ℕ) where
+  pub count-same : ((i : ℕ) → i < n → test i ≡ other i) → countTo test n ≡ countTo other n
+  count-same h = sum-cong (λ i. one (test i)) (λ i. one (other i)) n (λ i l. ap one (h i l))
+
+  pub count-fewer : ((i : ℕ) → i < n → test i ≡ true → other i ≡ true) → countTo test n ≤ countTo other n
+  count-fewer h = sum-le (λ i. one (test i)) (λ i. one (other i)) n (λ i l. one-le (test i) (other i) (h i l))
+
+pub count-none : (test : ℕ → Bool) (n : ℕ) → ((i : ℕ) → i < n → test i ≡ false) → countTo test n ≡ 0
+count-none test n h = sum-zero (λ i. one (test i)) n (λ i l. ap one (h i l))
 
 pub count-not : (test : ℕ → Bool) (n : ℕ) → countTo test n + countTo (λ i. not (test i)) n ≡ n
 unfolding sumTo
@@ -35,15 +46,10 @@ count-not test (suc n) = omega (arith, count-not test n, either (test n))
     either true = refl
     either false = refl
 
-count-none : (test : ℕ → Bool) (n : ℕ) → ((i : ℕ) → test i ≡ false) → countTo test n ≡ 0
-unfolding sumTo
-count-none test zero h = refl
-count-none test (suc n) h = rw (h n) (omega (arith, count-none test n h))
-
 -- A test that asks of every number the same thing besides.
 count-and : (b : Bool) (test : ℕ → Bool) (n : ℕ) → (if b then countTo test n else 0) ≡ countTo (λ i. b && test i) n
 count-and true test n = refl
-count-and false test n = sym (count-none (λ i. false) n (λ i. refl))
+count-and false test n = sym (count-none (λ i. false) n (λ i l. refl))
 
 module _ (some : ℕ → Bool) where
   -- One of the values below m + 1 is one of those below m, or m.
@@ -73,5 +79,5 @@ module _ (some : ℕ → Bool) where
         countTo (λ i. ltb (value i) m && some (value i)) n
     unfolding sumTo
     count-by zero =
-        sym (count-none (λ i. ltb (value i) 0 && some (value i)) n (λ i. rw (le-ltb (value i) 0 (omega arith))))
+        sym (count-none (λ i. ltb (value i) 0 && some (value i)) n (λ i l. rw (le-ltb (value i) 0 (omega arith))))
     count-by (suc m) = omega (arith, count-by m, count-more m)

@@ -1,0 +1,32 @@
+-- Laws of tests, and of numbers by whether they are equal.
+--     differ           no test both passes and fails
+--     both-true        both of two tests pass
+--     same-or-not      two numbers are equal or not
+--     last-or-below    a number below n + 1 is n or below n
+use Prim.Native.Nat.{ℕ, zero, suc, _<_}
+use mathlib.Core.Path.{_≡_, refl, ap}
+use mathlib.Core.Logic.{_⊎_, inl, inr}
+use mathlib.Core.Bool.{Bool, true, false, _&&_}
+use native.Mathlib.Nat.{le-of-suc-le-suc, eq-or-lt-of-le}
+use native.Mathlib.Omega.{arith}
+
+pub differ : {A : Type 0} {b : Bool} → b ≡ true → b ≡ false → A
+differ e f = let z : _≡_ {A = ℕ} 0 1 = cc in absurd (omega arith)
+
+pub both-true : (a b : Bool) → (a && b) ≡ true → (a ≡ true) × (b ≡ true)
+both-true true true e = (refl, refl)
+both-true true false e = differ e refl
+both-true false b e = differ e refl
+
+pub same-or-not : (a b : ℕ) → (a ≡ b) ⊎ (a ≡ b → ⊥)
+same-or-not zero zero = inl refl
+same-or-not zero (suc b) = inr (λ e. omega (arith, e))
+same-or-not (suc a) zero = inr (λ e. omega (arith, e))
+same-or-not (suc a) (suc b) = go (same-or-not a b)
+  where
+    go : (a ≡ b) ⊎ (a ≡ b → ⊥) → (suc a ≡ suc b) ⊎ (suc a ≡ suc b → ⊥)
+    go (inl e) = inl (ap suc e)
+    go (inr other) = inr (λ e. other (omega (arith, e)))
+
+pub last-or-below : (i n : ℕ) → i < suc n → (i ≡ n) ⊎ (i < n)
+last-or-below i n l = eq-or-lt-of-le (le-of-suc-le-suc l)

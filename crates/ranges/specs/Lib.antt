@@ -1,0 +1,2 @@
+-- Sums, counts and tests over the numbers below a bound.
+pub mod Ranges
