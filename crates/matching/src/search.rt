@@ -41,7 +41,7 @@ pub fn serve(rows: &[u64], held: &mut [usize], pane: usize, spare: u64, seen: u6
                 held[pane] = glass;
                 return Search::Moved(last);
             }
-            Search::Stuck(grown) => marked = grown,
+            Search::Stuck(reached) => marked = reached,
         }
     }
 }

@@ -278,13 +278,13 @@ not-freed :
     let f = c .before .before .before .before .before in
     let a = start t (f .before) .args in
     (f .free .last .1 .0 ≡ now (a .held))
-    × NotFreed (now (a .rows)) (now (a .held)) (now (a .held)) (glass t (f .before)) (a .spare) (f .before .with .result) (c .before .grown .given .0 .0)
+    × NotFreed (now (a .rows)) (now (a .held)) (now (a .held)) (glass t (f .before)) (a .spare) (f .before .with .result) (c .before .reached .given .0 .0)
 not-freed t c =
     let f = c .before .before .before .before .before in
     let w = f .before in
     let l = turn t w in
     let a = start t w .args in
-    let case = c .before .grown .given in
+    let case = c .before .reached .given in
     not-freed-of (now (a .rows)) (now (a .held)) (l .loop .held) (f .free .last .1 .0) (glass t w) (a .spare) (w .with .result)
     (f .free .result) (l .loop .inv .0) (case .0 .0) (case .1) (f .free .ensures)
 
@@ -294,7 +294,7 @@ serve-less t c =
     omega (
       arith,
       fewer-left t w,
-      unvisited-le (w .with .result) (c .before .grown .given .0 .0) (not-freed t c .1 .grown .keeps),
+      unvisited-le (w .with .result) (c .before .reached .given .0 .0) (not-freed t c .1 .grown .keeps),
     )
 
 serve-again : (t : ℕ) → serve-lts.Need-loop-again (serve-calls t) (serve-at t) serve.Post serve-Inv serve-μ
@@ -305,7 +305,7 @@ serve-again t c =
     let a = s .args in (
       not-freed t c .0,
       serve-on (now (a .rows)) (now (a .held)) (a .pane) (a .spare) (a .seen) (marked t w) (glass t w) (w .with .result)
-          (l .loop .inv .1 .keeps) (choice t w .1) (w .with .ensures) (s .pre .1) (c .before .grown .given .0 .0) (not-spare t w)
+          (l .loop .inv .1 .keeps) (choice t w .1) (w .with .ensures) (s .pre .1) (c .before .reached .given .0 .0) (not-spare t w)
           (l .loop .inv .1) (not-freed t c .1),
     )
 
