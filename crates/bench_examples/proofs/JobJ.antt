@@ -2,19 +2,16 @@
 -- is one sheet of it.
 --     full-placing    7 and 9 place both panes
 --     no-other        no other placing does
-use Prim.Native.Nat.{ℕ, zero, suc, _+_, _≤_, _<_}
+use Prim.Native.Nat.{ℕ, zero, suc, _≤_, _<_}
 use mathlib.Core.Path.{_≡_, refl, sym, _∙_}
 use mathlib.Core.Logic.{_⊎_, inl, inr}
 use mathlib.Core.Bool.{Bool, true, false}
 use mathlib.Core.List.{List, [], _∷_}
 use native.Mathlib.Omega.{arith}
 use lib.Dec.{eqb}
-use lib.ListN.{length, getD}
-use borrow.Author.Tests.{eq-eqb}
+use lib.ListN.{getD}
 use Rattle.job_line.specs.Bytes.{if_then_else_}
 use Rattle.job_part.proofs.Kept.{clash}
-use Rattle.job_glass.specs.declared.Glass.{Glass}
-use Rattle.job_pane.specs.declared.Pane.{Pane}
 use Rattle.job_grammar.specs.Examples.{glassesJ, panesJ}
 use Rattle.span_table.specs.Spans.{spans}
 use Rattle.clauses.specs.Verdict.{verdictOf}

@@ -6,8 +6,8 @@
 --     serve-on, serve-stuck            none has; no glass is left
 --     free-moved                       a holder has moved
 --     free-other, free-on              the pane is no holder, or can't move
-use Prim.Native.Nat.{ℕ, zero, suc, _+_, _<_}
-use mathlib.Core.Path.{_≡_, refl, ap, sym, subst, subst⁻¹, _∙_}
+use Prim.Native.Nat.{ℕ, _+_, _<_}
+use mathlib.Core.Path.{_≡_, refl, ap, subst, subst⁻¹, _∙_}
 use mathlib.Core.Logic.{_⊎_, inl, inr}
 use mathlib.Core.Bool.{Bool, true, false, _||_, or-true}
 use mathlib.Core.List.{List}
@@ -15,7 +15,7 @@ use native.Mathlib.Omega.{arith}
 use lib.Dec.{eqb}
 use lib.ListN.{length, getD, set}
 use lib.Seq.{getD-set-same, getD-set-other}
-use borrow.Author.Tests.{eq-eqb, ne-eqb}
+use borrow.Author.Tests.{ne-eqb}
 use Rattle.ranges.specs.Ranges.{one}
 use Rattle.ranges.proofs.Tests.{differ, same-or-not}
 use Rattle.ranges.proofs.Sums.{sum-at}
@@ -23,7 +23,7 @@ use Rattle.glass_set.specs.Member.{has, Members, Within}
 use Rattle.glass_set.proofs.Members.{within-trans, within-out}
 use Rattle.matching.specs.declared.search.Search.{Search}
 use Rattle.matching.specs.declared.search.Search.the-variants.{Moved, Stuck}
-use Rattle.matching.specs.Steps.{Unseen, holding, Exhausted, Grown, Move, stays, moves, Chain, Servable, Served, NotServed, Serves, Freed, NotFreed, Frees}
+use Rattle.matching.specs.Steps.{Unseen, holding, Exhausted, Grown, Move, stays, moves, Servable, Served, NotServed, Serves, Freed, NotFreed, Frees}
 
 -- ---- sets that grow
 

@@ -6,25 +6,25 @@
 --     standing-stuck   a pane was not
 --     settled          a pane that waits can be served
 --     standing-last    after the last pane the placing is a greatest one
-use Prim.Native.Nat.{ℕ, zero, suc, _+_, _-_, _≤_, _<_}
-use mathlib.Core.Path.{_≡_, refl, ap, sym, subst, subst⁻¹, _∙_}
+use Prim.Native.Nat.{ℕ, _+_, _-_, _≤_, _<_}
+use mathlib.Core.Path.{_≡_, refl, ap, sym, _∙_}
 use mathlib.Core.Logic.{_⊎_, inl, inr}
-use mathlib.Core.Bool.{Bool, true, false, not, _&&_, _||_}
+use mathlib.Core.Bool.{Bool, true, false}
 use mathlib.Core.List.{List}
 use native.Mathlib.Omega.{arith}
 use lib.Dec.{ltb, eqb}
 use lib.ListN.{length, getD, set, length-set}
 use lib.Seq.{getD-set-same, getD-set-other}
-use borrow.Author.Tests.{eq-eqb, ne-eqb, lt-ltb, le-ltb, ltb-true, ltb-false}
+use borrow.Author.Tests.{eq-eqb, ne-eqb, ltb-true, ltb-false}
 use Rattle.job_line.specs.Bytes.{if_then_else_}
 use Rattle.ranges.specs.Ranges.{one}
 use Rattle.ranges.proofs.Tests.{differ, same-or-not}
 use Rattle.ranges.proofs.Sums.{sum-zero}
 use Rattle.glass_set.specs.Member.{has, Members, Within}
 use Rattle.glass_set.proofs.Members.{within-trans, within-of}
-use Rattle.matching.specs.Matching.{Task, Matching, Greatest, confined}
+use Rattle.matching.specs.Matching.{Greatest}
 use Rattle.matching.specs.Rows.{taskOf, wayOf}
-use Rattle.matching.specs.Steps.{Unseen, holding, Grown, Move, stays, moves, Chain, Servable, Served, NotServed}
+use Rattle.matching.specs.Steps.{Unseen, holding, Move, stays, moves, Servable, Served, NotServed}
 use Rattle.matching.proofs.Cover.{greatest-of}
 
 -- A glass that is one of the 64 and in a set.

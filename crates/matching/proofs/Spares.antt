@@ -3,7 +3,7 @@
 --     counted-first, counted-in, counted-out   none yet; the next has a sheet, or has none
 --     after-some, after-none                   one glass has some sheets left, or none
 use Prim.Native.Nat.{ℕ, _+_, _≤_, _<_}
-use mathlib.Core.Path.{_≡_, refl, ap, sym, _∙_}
+use mathlib.Core.Path.{_≡_, refl, _∙_}
 use mathlib.Core.Logic.{_⊎_, inl, inr}
 use mathlib.Core.Bool.{Bool, true, false, not, _&&_, _||_}
 use mathlib.Core.List.{List}

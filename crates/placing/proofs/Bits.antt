@@ -22,7 +22,7 @@ use Rattle.ranges.proofs.Tests.{same-or-not}
 use Rattle.glass_set.specs.Member.{has, Members}
 use Rattle.glass_set.proofs.Members.{has-none}
 use Rattle.placing.specs.Passing.{passes, paneAt, glassAt}
-use Rattle.placing.specs.Steps.{RowOf, RowsOf}
+use Rattle.placing.specs.Steps.{RowOf}
 
 module _ (row number : ℕ) (pass : Bool) where
   pub bit-passes :

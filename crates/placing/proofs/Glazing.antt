@@ -11,7 +11,7 @@ use mathlib.Core.List.{List, [], _∷_, _++_, map}
 use native.Mathlib.Nat.{eq-or-lt-of-le}
 use native.Mathlib.Omega.{arith}
 use lib.ListN.{length, getD, take, drop, length-map, List·getD-map}
-use lib.Seq.{take-at, drop-at, length-take-le, getD-take, ext-getD}
+use lib.Seq.{take-at, drop-at, length-take-le, getD-take}
 use Rattle.job_line.specs.Bytes.{if_then_else_}
 use Rattle.job_glass.specs.GlassLine.{blankGlass}
 use Rattle.job_glass.specs.declared.Glass.{Glass}
@@ -21,9 +21,9 @@ use Rattle.glass_set.specs.Member.{has}
 use Rattle.matching.specs.Matching.{Greatest}
 use Rattle.matching.specs.Rows.{taskOf, wayOf}
 use Rattle.placing.specs.Passing.{paneAt, glassAt}
-use Rattle.placing.specs.Placing.{nonzero, stocksOf, Placing, NoneToSpare, FullPlacing}
+use Rattle.placing.specs.Placing.{nonzero, stocksOf, Placing, NoneToSpare}
 use Rattle.placing.specs.ShortGroup.{ShortGroup}
-use Rattle.placing.specs.Promise.{counts, Call, call, NoGroup, Group, Glazed}
+use Rattle.placing.specs.Promise.{counts, call, NoGroup, Group, Glazed}
 use Rattle.placing.specs.Steps.{idsOf, groupTo, confinedTo, written, Read, RowsOf, Answered, confinedIds, Grouped}
 use Rattle.placing.proofs.Reading.{few-glasses}
 use Rattle.placing.proofs.Numbers.{id-past}

@@ -2,7 +2,7 @@
 --     times-count      how often an id stands in a list
 --     nonzero-count    how many entries are not 0
 --     nonzero-le       at most as many as the list has entries
-use Prim.Native.Nat.{ℕ, _+_, _≤_}
+use Prim.Native.Nat.{ℕ, _≤_}
 use mathlib.Core.Path.{_≡_, refl}
 use mathlib.Core.Bool.{Bool, true, false, not}
 use mathlib.Core.List.{List, [], _∷_}

@@ -5,7 +5,6 @@ use Prim.Native.Nat.{ℕ, _≤_, _<_}
 use mathlib.Core.Path.{subst}
 use mathlib.Core.List.{List}
 use native.Mathlib.Omega.{arith}
-use lib.ListN.{getD, take}
 use lib.Seq.{getD-take}
 use Rattle.job_glass.specs.GlassLine.{blankGlass}
 use Rattle.job_glass.specs.Values.{GlassValues}

@@ -5,21 +5,20 @@
 --     answered-none, answered-next    the ids of the glasses held, of no pane and of one pane more
 --     answered-le                     no more panes are placed than are answered
 --     grouped-in, grouped-out         the ids of the group, with the next pane and without
-use Prim.Native.Nat.{ℕ, zero, suc, _+_, _≤_, _<_}
+use Prim.Native.Nat.{ℕ, _+_, _≤_, _<_}
 use mathlib.Core.Path.{_≡_, refl, ap, subst, _∙_}
 use mathlib.Core.Bool.{Bool, true, false}
 use mathlib.Core.List.{List, [], _∷_, _++_, map, map-append, append-nil}
 use native.Mathlib.Numerals.{add-one}
 use native.Mathlib.Omega.{arith}
 use lib.Dec.{eqb}
-use lib.ListN.{length, getD, set, take, drop, length-map, length-append, length-drop}
+use lib.ListN.{length, getD, set, take, length-map, length-append}
 use lib.Seq.{take-suc, length-take-le, drop-length}
 use Rattle.job_line.specs.Bytes.{if_then_else_}
-use Rattle.job_glass.specs.GlassLine.{blankGlass}
 use Rattle.job_glass.specs.declared.Glass.{Glass}
 use Rattle.job_pane.specs.declared.Pane.{Pane}
 use Rattle.placing.specs.Passing.{paneAt, glassAt}
-use Rattle.placing.specs.Placing.{nonzero, stocksOf}
+use Rattle.placing.specs.Placing.{nonzero}
 use Rattle.placing.specs.Steps.{idsOf, groupTo, written, Answered}
 use Rattle.placing.proofs.Ids.{nonzero-le}
 

@@ -5,7 +5,7 @@ use Prim.Native.Nat.{ℕ, _+_, _-_, _<_}
 use native.Mathlib.Omega.{arith}
 use mathlib.Core.Path.{_≡_, refl, ap, sym, subst⁻¹, _∙_}
 use mathlib.Core.List.{List}
-use lib.ListN.{length, getD, getD-replicate, length-replicate}
+use lib.ListN.{length, getD, getD-replicate}
 use denote.Ref.{now}
 use Rattle.glass_set.proofs.Members.{has-none}
 use Rattle.matching.specs.Steps.{Served}

@@ -3,17 +3,16 @@
 use borrow.Author.Needs.{needs}
 use borrow.Fn.Kinds.{In}
 use borrow.Fn.PlainCycle.{Measures, is, falls, and}
-use Prim.Native.Nat.{ℕ, _+_, _-_, _≤_, _<_}
+use Prim.Native.Nat.{ℕ, _+_, _-_, _<_}
 use native.Mathlib.Omega.{arith}
-use mathlib.Core.Path.{_≡_, refl, ap, sym, subst, subst⁻¹, _∙_}
+use mathlib.Core.Path.{_≡_, refl, ap, sym, subst, _∙_}
 use mathlib.Core.Bool.{true, false}
 use mathlib.Core.List.{List}
-use lib.ListN.{length, getD, set, length-set}
+use lib.ListN.{length, getD, length-set}
 use Rattle.ranges.proofs.Tests.{differ}
 use Rattle.glass_set.specs.Member.{has, unvisited}
 use Rattle.matching.specs.Steps.{Grown}
 use Rattle.glass_set.proofs.Members.{unvisited-le}
-use Rattle.matching.specs.declared.search.Search.{Search}
 use Rattle.matching.specs.Steps.{Unseen, NotFreed}
 use Rattle.matching.proofs.Chains.{unseen-back, grown-none, serve-spare, serve-moved, serve-on, free-moved, Passed, free-other, free-on, served-of, not-served-of, freed-of, not-freed-of}
 use Rattle.matching.proofs.Choices.{at-hand, none-at-hand, rest-at, rest-none, now-marked, fewer}
