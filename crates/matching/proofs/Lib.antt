@@ -4,6 +4,7 @@ pub mod Cover
 pub mod Chains
 pub mod Choices
 -- The placing of pane after pane.
-pub mod Rounds
+pub mod Standing
+pub mod Turns
 -- The glasses with a sheet to spare.
 pub mod Spares

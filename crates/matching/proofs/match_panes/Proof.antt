@@ -7,10 +7,10 @@ use mathlib.Core.Path.{_≡_, refl, ap, sym, subst⁻¹, _∙_}
 use mathlib.Core.List.{List}
 use lib.ListN.{length, getD, getD-replicate}
 use denote.Ref.{now}
-use Rattle.glass_set.proofs.Members.{has-none}
 use Rattle.matching.specs.Steps.{Served}
 use Rattle.matching.proofs.Chains.{served-of, not-served-of}
-use Rattle.matching.proofs.Rounds.{Standing, standing-first, servable, some-left, standing-moved, standing-stuck, standing-last}
+use Rattle.matching.proofs.Standing.{Standing, standing-first, standing-last}
+use Rattle.matching.proofs.Turns.{servable, some-left, standing-moved, standing-stuck}
 use Rattle.matching.proofs.match_panes.Statement.{statement}
 use Rattle.matching.proofs.match_panes.Tie as tie
 
@@ -26,12 +26,12 @@ loop-holds c =
     let cleared = c .before .before .before .clear in
     let n = length (now (s .args .held)) in
     let all : length (s .args .sheets) ≡ 64 = search needs in
-    standing-first (now (s .args .rows)) (s .args .sheets) (cleared .last .0) (c .spare-glasses .result)
+    standing-first (now (s .args .rows)) (s .args .sheets) (cleared .last .0)
+    (λ p l. ap (λ (h : List ℕ). getD h p 0) (cleared .ensures) ∙ getD-replicate n p 64 0 (omega (arith, s .pre)))
+    (c .spare-glasses .result)
     (cleared .kept .0 ∙ s .pre)
     all
-    (λ p l. ap (λ (h : List ℕ). getD h p 0) (cleared .ensures) ∙ getD-replicate n p 64 0 (omega (arith, s .pre)))
     (c .spare-glasses .ensures)
-    has-none
 
 -- Where `serve` was called: the turn of the loop, and the start.
 abbrev turn : tie.After-serve Inv-loop μ-loop → tie.At-loop Inv-loop μ-loop
@@ -47,7 +47,8 @@ served :
     (c : tie.After-known-told Inv-loop μ-loop) →
     let f = c .before .before .before .before .before in
     let l = turn f .loop in
-    Served (now (start f .args .rows)) (l .held) (f .serve .last .1 .0) (l .next) (l .spare) (l .tight) (c .before .last .given .0 .0)
+    Served (now (start f .args .rows)) (l .held) (f .serve .last .1 .0) (l .next) (l .spare) (l .tight)
+    (c .before .last .given .0 .0)
 served c =
     let f = c .before .before .before .before .before in
     let l = turn f .loop in

@@ -118,14 +118,13 @@ free-has-moved t c =
     let a = l .before .before .before .args in
     let inv = l .loop .inv in
     let case = c .before .last .given in
-    let moved = served-of (now (a .rows)) (now (a .held)) (l .loop .held) (f .serve .last .1 .0) (l .loop .next) (a .spare) (l .loop .marked) (f .serve .result) (inv .0) (case .0 .0) (case .1) (f .serve .ensures) in
+    let moved =
+    served-of (now (a .rows)) (now (a .held)) (l .loop .held) (f .serve .last .1 .0) (l .loop .next) (a .spare)
+    (l .loop .marked) (f .serve .result) (inv .0) (case .0 .0) (case .1) (f .serve .ensures) in
     free-moved (now (a .rows)) (now (a .held)) (a .glass) (a .spare) (a .seen) (l .loop .marked) (inv .1 .grown .keeps)
     (f .serve .last .1 .0) (l .loop .next) (case .0 .0)
     (subst (λ (h : List ℕ). getD h (l .loop .next) 0 ≡ a .glass) (inv .0) (f .before .before .if1 .taken))
     moved
-
-free-less : (t : ℕ) → free-lts.Need-loop-less (free-calls t) (free-at t) free.Post free-Inv free-μ
-free-less t c = omega arith
 
 free-again : (t : ℕ) → free-lts.Need-loop-again (free-calls t) (free-at t) free.Post free-Inv free-μ
 free-again t c =
@@ -134,7 +133,9 @@ free-again t c =
     let a = l .before .before .before .args in
     let inv = l .loop .inv in
     let case = c .before .grown .given in
-    let stuck = not-served-of (now (a .rows)) (now (a .held)) (l .loop .held) (f .serve .last .1 .0) (l .loop .next) (a .spare) (l .loop .marked) (f .serve .result) (inv .0) (case .0 .0) (case .1) (f .serve .ensures) in (
+    let stuck =
+    not-served-of (now (a .rows)) (now (a .held)) (l .loop .held) (f .serve .last .1 .0) (l .loop .next) (a .spare)
+    (l .loop .marked) (f .serve .result) (inv .0) (case .0 .0) (case .1) (f .serve .ensures) in (
       stuck .0,
       free-on (now (a .rows)) (now (a .held)) (a .glass) (a .spare) (a .seen) (l .loop .marked) (l .loop .next) (inv .1)
           (case .0 .0) (stuck .1),
@@ -174,6 +175,16 @@ serve-takes-spare t c =
     at-hand (getD (now (a .rows)) (a .pane) 0) (a .spare) (a .seen) (b .both .result) (m .minus .result)
     (b .both .ensures) (m .minus .ensures) (c .first .result) (c .first .ensures .0) (c .first .ensures .1) in
     serve-spare (now (a .rows)) (now (a .held)) (a .pane) (a .spare) (a .seen) (c .first .result) (s .pre .1) (h .2) (h .1) (h .0)
+
+serve-write-spare : (t : ℕ) → serve-lts.Need-slice-write-held (serve-calls t) (serve-at t) serve.Post serve-Inv serve-μ
+serve-write-spare t c =
+    let p = c .before .before .before .before .before .before .before .pre .1 in
+    omega (arith, p .same-length, p .of-rows)
+
+serve-same-length : (t : ℕ) → serve-lts.Need-same-length (serve-calls t) (serve-at t) serve.Post serve-Inv serve-μ
+serve-same-length t c =
+    let a = c .before .before .before .before .before .before .before .args in
+    length-set (now (a .held)) (a .pane) (c .first .result)
 
 serve-loop-holds : (t : ℕ) → serve-lts.Need-loop-holds (serve-calls t) (serve-at t) serve.Post serve-Inv serve-μ
 serve-loop-holds t c =
@@ -247,8 +258,8 @@ free-kept :
     length (f .free .last .1 .0) ≡ length (now (start t (f .before) .args .held))
 free-kept t f = f .free .kept .1 .0 ∙ ap length (turn t (f .before) .loop .inv .0)
 
-serve-write : (t : ℕ) → serve-lts.Need-slice-write-held-2 (serve-calls t) (serve-at t) serve.Post serve-Inv serve-μ
-serve-write t c =
+serve-write-freed : (t : ℕ) → serve-lts.Need-slice-write-held-2 (serve-calls t) (serve-at t) serve.Post serve-Inv serve-μ
+serve-write-freed t c =
     let f = c .before .before .before .before .before in
     let p = start t (f .before) .pre .1 in
     omega (arith, free-kept t f, p .same-length, p .of-rows)
@@ -277,7 +288,8 @@ not-freed :
     let f = c .before .before .before .before .before in
     let a = start t (f .before) .args in
     (f .free .last .1 .0 ≡ now (a .held))
-    × NotFreed (now (a .rows)) (now (a .held)) (now (a .held)) (glass t (f .before)) (a .spare) (f .before .with .result) (c .before .reached .given .0 .0)
+    × NotFreed (now (a .rows)) (now (a .held)) (now (a .held)) (glass t (f .before)) (a .spare) (f .before .with .result)
+    (c .before .reached .given .0 .0)
 not-freed t c =
     let f = c .before .before .before .before .before in
     let w = f .before in
@@ -304,8 +316,8 @@ serve-again t c =
     let a = s .args in (
       not-freed t c .0,
       serve-on (now (a .rows)) (now (a .held)) (a .pane) (a .spare) (a .seen) (marked t w) (glass t w) (w .with .result)
-          (l .loop .inv .1 .keeps) (choice t w .1) (w .with .ensures) (s .pre .1) (c .before .reached .given .0 .0) (not-spare t w)
-          (l .loop .inv .1) (not-freed t c .1),
+          (l .loop .inv .1 .keeps) (choice t w .1) (w .with .ensures) (s .pre .1) (c .before .reached .given .0 .0)
+          (not-spare t w) (l .loop .inv .1) (not-freed t c .1),
     )
 
 pub +free+serve-spec : {M : Type 1} → statement M
@@ -323,7 +335,7 @@ pub +free+serve-spec : {M : Type 1} → statement M
     (free-same-length t)
     (free-has-moved t)
     (λ c. search needs)
-    (free-less t)
+    (λ c. omega arith)
     (free-again t)
     (λ c. omega arith)
     (free-again-other t)
@@ -336,8 +348,8 @@ pub +free+serve-spec : {M : Type 1} → statement M
     (λ c κs. search needs)
     (λ c κs. c .if1 .taken)
     (λ c. search needs)
-    (λ c. omega (arith, c .before .before .before .before .before .before .before .pre .1 .same-length, c .before .before .before .before .before .before .before .pre .1 .of-rows))
-    (λ c. let a = c .before .before .before .before .before .before .before .args in length-set (now (a .held)) (a .pane) (c .first .result))
+    (serve-write-spare t)
+    (serve-same-length t)
     (serve-takes-spare t)
     (serve-loop-holds t)
     (λ c κs. search needs)
@@ -348,7 +360,7 @@ pub +free+serve-spec : {M : Type 1} → statement M
     (serve-free-requires t)
     (λ c. search needs)
     (λ c. search needs)
-    (serve-write t)
+    (serve-write-freed t)
     (serve-same-length-3 t)
     (serve-has-moved t)
     (λ c. search needs)
