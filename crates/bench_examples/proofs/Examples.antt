@@ -40,7 +40,9 @@ examples =
       f = of-clauses .f;
       g-two = of-clauses .g-two;
       g-four = of-clauses .g-four;
-      h = record { counted = λ c p. example-h c (glazed-of (outcomeOf jobH) [] [] c nothing-wanted (omega arith) (omega arith) p) };
+      h = record {
+        counted = λ c p. example-h c (glazed-of (outcomeOf jobH) [] [] c nothing-wanted (omega arith) (omega arith) p);
+      };
       i = record { too-short = thirteen-bytes };
       j = λ c l k p. example-j c (glazed-of (outcomeOf jobJ) glassesJ panesJ c job-read l k p);
     }

@@ -52,7 +52,9 @@ row-next pane glasses n row more r is g l = is g l ∙ rw (r g l) (go (same-or-n
         rw (eq-eqb g n same, le-ltb g n (omega (arith, same)), lt-ltb g (n + 1) (omega (arith, same)), same, or-false)
     go (inr other) = rw (ne-eqb g n other) (below (ltb g n) refl)
       where
-        below : (b : Bool) → ltb g n ≡ b → (b && passes pane (glassAt glasses g)) ≡ (ltb g (n + 1) && passes pane (glassAt glasses g))
+        below :
+            (b : Bool) → ltb g n ≡ b →
+            (b && passes pane (glassAt glasses g)) ≡ (ltb g (n + 1) && passes pane (glassAt glasses g))
         below true e = rw (lt-ltb g (n + 1) (omega (arith, ltb-true g n e)))
         below false e = rw (le-ltb g (n + 1) (past (eq-or-lt-of-le (ltb-false g n e))))
           where

@@ -4,6 +4,7 @@
 --     group-among      an id that stands in the group is one of them
 --     group-of-file    each entry is one of them
 --     group-once       each stands in the group once
+--     group-front      the group, from the front of a list of panes
 --     Suited           a glass passes for a pane of a group
 --     suits-one        a glass that suits a group does so
 use Prim.Native.Nat.{ℕ, zero, suc, _+_, _≤_, _<_}
@@ -13,8 +14,8 @@ use mathlib.Core.Bool.{Bool, true, false, not, _&&_, _||_}
 use mathlib.Core.List.{List, [], _∷_, _++_}
 use native.Mathlib.Omega.{arith}
 use lib.Dec.{T, eqb}
-use lib.ListN.{length, getD, length-append}
-use lib.Seq.{take-length}
+use lib.ListN.{length, getD, take, length-append}
+use lib.Seq.{take-length, getD-take}
 use borrow.Author.Tests.{eqb-true}
 use Rattle.job_line.specs.Bytes.{if_then_else_}
 use Rattle.job_part.specs.Part.{among}
@@ -23,6 +24,7 @@ use Rattle.job_part.proofs.Kept.{clash}
 use Rattle.job_part.proofs.Lists.{distinct-snoc}
 use Rattle.job_part.proofs.Members.{among-append, among-found}
 use Rattle.job_glass.specs.declared.Glass.{Glass}
+use Rattle.job_pane.specs.PaneLine.{blankPane}
 use Rattle.job_pane.specs.declared.Pane.{Pane}
 use Rattle.job_file.specs.Rules.{Rules}
 use Rattle.ranges.specs.Ranges.{sumTo, countTo}
@@ -106,6 +108,22 @@ module _ (panes : List Pane) (test : ℕ → Bool) where
           Distinct (if b then groupTo panes test n ++ (paneAt panes n .id ∷ []) else groupTo panes test n)
       go true later = distinct-snoc (groupTo panes test n) (paneAt panes n .id) later (new _ refl)
       go false later = later
+
+pub group-front :
+    (array : List Pane) (test : ℕ → Bool) (m n : ℕ) → n ≤ m → groupTo array test n ≡ groupTo (take m array) test n
+unfolding groupTo
+group-front array test m zero l = refl
+group-front array test m (suc n) l = go (test n) (group-front array test m n (omega arith))
+  where
+    pane : paneAt (take m array) n ≡ paneAt array n
+    pane = getD-take m array n blankPane (omega arith)
+
+    go :
+        (b : Bool) → groupTo array test n ≡ groupTo (take m array) test n →
+        (if b then groupTo array test n ++ (paneAt array n .id ∷ []) else groupTo array test n)
+        ≡ (if b then groupTo (take m array) test n ++ (paneAt (take m array) n .id ∷ []) else groupTo (take m array) test n)
+    go true e = rw (pane, e)
+    go false e = e
 
 pub record Suited (panes : List Pane) (group : List ℕ) (glass : Glass) : Type 0 where
   pub place : ℕ

@@ -16,19 +16,22 @@ use Rattle.job_file.proofs.Accepted.{glass-values, pane-values}
 use Rattle.placing.specs.Passing.{paneAt, glassAt}
 use Rattle.placing.specs.Steps.{Read}
 
-module _ {glassArray : List Glass} {glasses : ℕ} {paneArray : List Pane} {panes : ℕ} (r : Read glassArray glasses paneArray panes) where
-  pub few-glasses : glasses ≤ 64
-  few-glasses = omega (arith, r .glass-count, r .rules .of-glasses .at-most)
+module _
+    {glassArray : List Glass} {glasses : ℕ} {paneArray : List Pane} {panes : ℕ}
+    (r : Read glassArray glasses paneArray panes)
+  where
+    pub few-glasses : glasses ≤ 64
+    few-glasses = omega (arith, r .glass-count, r .rules .of-glasses .at-most)
 
-  pub few-panes : panes ≤ 256
-  few-panes = omega (arith, r .pane-count, r .rules .of-panes .at-most)
+    pub few-panes : panes ≤ 256
+    few-panes = omega (arith, r .pane-count, r .rules .of-panes .at-most)
 
-  pub glass-at : (g : ℕ) → g < glasses → GlassValues (glassAt glassArray g)
-  glass-at g l =
-      subst GlassValues (getD-take glasses glassArray g blankGlass l)
-      (glass-values (r .rules) g (omega (arith, r .glass-count)))
+    pub glass-at : (g : ℕ) → g < glasses → GlassValues (glassAt glassArray g)
+    glass-at g l =
+        subst GlassValues (getD-take glasses glassArray g blankGlass l)
+        (glass-values (r .rules) g (omega (arith, r .glass-count)))
 
-  pub pane-at : (p : ℕ) → p < panes → PaneValues (paneAt paneArray p)
-  pane-at p l =
-      subst PaneValues (getD-take panes paneArray p blankPane l)
-      (pane-values (r .rules) p (omega (arith, r .pane-count)))
+    pub pane-at : (p : ℕ) → p < panes → PaneValues (paneAt paneArray p)
+    pane-at p l =
+        subst PaneValues (getD-take panes paneArray p blankPane l)
+        (pane-values (r .rules) p (omega (arith, r .pane-count)))

@@ -1,19 +1,21 @@
 -- Laws of lists whose first entries a call writes, one after the other.
 --     written-next                    one entry more
 --     written-all                     all entries
+--     first-written                   the first entries and the later ones
+--     map-same                        a list that is worked out in two ways
 --     map-long, written-map           entries that are worked out one by one
 --     answered-none, answered-next    the ids of the glasses held, of no pane and of one pane more
 --     answered-le                     no more panes are placed than are answered
 --     grouped-in, grouped-out         the ids of the group, with the next pane and without
-use Prim.Native.Nat.{ℕ, _+_, _≤_, _<_}
+use Prim.Native.Nat.{ℕ, suc, _+_, _≤_, _<_}
 use mathlib.Core.Path.{_≡_, refl, ap, subst, _∙_}
 use mathlib.Core.Bool.{Bool, true, false}
 use mathlib.Core.List.{List, [], _∷_, _++_, map, map-append, append-nil}
 use native.Mathlib.Numerals.{add-one}
 use native.Mathlib.Omega.{arith}
 use lib.Dec.{eqb}
-use lib.ListN.{length, getD, set, take, length-map, length-append}
-use lib.Seq.{take-suc, length-take-le, drop-length}
+use lib.ListN.{length, getD, set, take, drop, length-map, length-append}
+use lib.Seq.{take-at, drop-at, take-suc, length-take-le, drop-length}
 use Rattle.job_line.specs.Bytes.{if_then_else_}
 use Rattle.job_glass.specs.declared.Glass.{Glass}
 use Rattle.job_pane.specs.declared.Pane.{Pane}
@@ -31,6 +33,19 @@ written-next (f ∷ fs) (b ∷ bs) x l = ap (λ (r : List ℕ). f ∷ r) (writte
 
 pub written-all : (first before : List ℕ) → length first ≡ length before → written first before ≡ first
 written-all first before e = rw (e, drop-length before, append-nil)
+
+pub first-written :
+    (first before after : List ℕ) (n : ℕ) → length first ≡ n → after ≡ written first before →
+    (take n after ≡ first) × (drop n after ≡ drop n before)
+first-written first before after n long is = (
+  rw is (take-at first (drop (length first) before) n long),
+  rw is (drop-at first (drop (length first) before) n long) ∙ ap (λ (k : ℕ). drop k before) long,
+)
+
+pub map-same :
+    (f g : ℕ → ℕ) (xs : List ℕ) → ((p : ℕ) → p < length xs → f (getD xs p 0) ≡ g (getD xs p 0)) → map f xs ≡ map g xs
+map-same f g [] h = refl
+map-same f g (x ∷ xs) h = rw (h 0 (omega arith), map-same f g xs (λ p l. h (suc p) (omega arith)))
 
 -- One entry more of a list that is worked out entry by entry.
 map-next :
@@ -87,7 +102,8 @@ module _ (panes : List Pane) (test : ℕ → Bool) (before : List ℕ) (n : ℕ)
       × (length (groupTo panes test (n + 1)) ≡ length (groupTo panes test n) + 1)
   unfolding groupTo
   grouped-in after passed fits is =
-      let next : groupTo panes test (n + 1) ≡ groupTo panes test n ++ (paneAt panes n .id ∷ []) = rw (add-one, groupTo, passed) in (
+      let next : groupTo panes test (n + 1) ≡ groupTo panes test n ++ (paneAt panes n .id ∷ []) =
+      rw (add-one, groupTo, passed) in (
         rw (is, next) (written-next (groupTo panes test n) before (paneAt panes n .id) fits),
         rw (next, length-append),
       )

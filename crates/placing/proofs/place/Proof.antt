@@ -19,7 +19,8 @@ job :
     Job (now (start k .args .file)) (k .before .before .read-job .result) (k .checked2 .given .0 .0) (k .checked2 .given .0 .1 .0)
 job k =
     let v = k .checked2 .given in
-    job-read (now (start k .args .file)) (k .before .before .read-job .result) (v .0 .0) (v .0 .1 .0) (k .before .before .read-job .ensures) (v .1)
+    let r = k .before .before .read-job in
+    job-read (now (start k .args .file)) (r .result) (v .0 .0) (v .0 .1 .0) (r .ensures) (v .1)
 
 -- The promise where a lent list is too short.
 no-answers : tie.Need-returns

@@ -27,13 +27,24 @@ rowed h = h .before .before .before
 abbrev start : tie.After-rows-of → tie.Start
 start c = c .before .before .before
 
+abbrev searched : tie.After-write-answers → tie.After-match-panes
+searched w = w .before .before .before .before
+
+-- The glasses held, as the search left them, and the answers.
+abbrev held : tie.After-match-panes → List ℕ
+held m = m .match-panes .last .1 .1 .0
+
+abbrev answersAfter : tie.After-write-answers → List ℕ
+answersAfter w = w .write-answers .last .1 .1 .0
+
 -- There are enough rows, and one for each pane.
 enough : (c : tie.After-rows-of) → start c .args .pane-count ≤ length (c .rows-of .result)
 enough c =
     let long : length (c .rows-of .result) ≡ 256 = search needs in
     omega (arith, long, few-panes (start c .pre .0))
 
-a-row-each : (c : tie.After-rows-of) → length (take (start c .args .pane-count) (c .rows-of .result)) ≡ start c .args .pane-count
+a-row-each :
+    (c : tie.After-rows-of) → let n = start c .args .pane-count in length (take n (c .rows-of .result)) ≡ n
 a-row-each c = length-take-le (start c .args .pane-count) (c .rows-of .result) (enough c)
 
 -- The list that is lent for the glasses held.
@@ -43,42 +54,40 @@ zeros = replicate 256 0
 as-long : (h : tie.After-held) → let n = start (rowed h) .args .pane-count in length (take n zeros) ≡ n
 as-long h = length-take-le (start (rowed h) .args .pane-count) zeros (few-panes (start (rowed h) .pre .0))
 
-held-long : (m : tie.After-match-panes) → length (m .match-panes .last .1 .1 .0) ≡ start (rowed (m .before)) .args .pane-count
+held-long : (m : tie.After-match-panes) → length (held m) ≡ start (rowed (m .before)) .args .pane-count
 held-long m = m .match-panes .kept .1 .1 .0 ∙ as-long (m .before)
 
--- What is read of it again.
+-- The first entries of that list are read again.
 held-again :
     (m : tie.After-match-panes) → let n = start (rowed (m .before)) .args .pane-count in
-    take n (m .match-panes .last .1 .1 .0 ++ drop n zeros) ≡ m .match-panes .last .1 .1 .0
+    take n (held m ++ drop n zeros) ≡ held m
 held-again m =
     let n = start (rowed (m .before)) .args .pane-count in
-    take-at (m .match-panes .last .1 .1 .0) (drop n zeros) n (held-long m)
+    take-at (held m) (drop n zeros) n (held-long m)
 
 best :
     (m : tie.After-match-panes) →
     let c = rowed (m .before) in
     let a = start c .args in
-    Greatest (taskOf (take (a .pane-count) (c .rows-of .result)) (stocksOf (a .glasses))) (wayOf (m .match-panes .last .1 .1 .0))
+    Greatest (taskOf (take (a .pane-count) (c .rows-of .result)) (stocksOf (a .glasses))) (wayOf (held m))
     (has (m .match-panes .result))
 best m =
     let c = rowed (m .before) in
     let a = start c .args in
     subst
-    (λ (sheets : List ℕ). Greatest (taskOf (take (a .pane-count) (c .rows-of .result)) sheets) (wayOf (m .match-panes .last .1 .1 .0)) (has (m .match-panes .result)))
+    (λ (sheets : List ℕ).
+    Greatest (taskOf (take (a .pane-count) (c .rows-of .result)) sheets) (wayOf (held m)) (has (m .match-panes .result)))
     (m .before .before .sheets-of .ensures) (m .match-panes .ensures)
-
-abbrev searched : tie.After-write-answers → tie.After-match-panes
-searched w = w .before .before .before .before
 
 answered :
     (w : tie.After-write-answers) →
     let m = searched w in
     let a = start (rowed (m .before)) .args in
-    Answered (a .glasses) (m .match-panes .last .1 .1 .0) (now (a .answers)) (w .write-answers .last .1 .1 .0) (w .write-answers .result)
+    Answered (a .glasses) (held m) (now (a .answers)) (answersAfter w) (w .write-answers .result)
 answered w =
     let m = searched w in
     let a = start (rowed (m .before)) .args in
-    subst (λ (held : List ℕ). Answered (a .glasses) held (now (a .answers)) (w .write-answers .last .1 .1 .0) (w .write-answers .result))
+    subst (λ (held : List ℕ). Answered (a .glasses) held (now (a .answers)) (answersAfter w) (w .write-answers .result))
     (held-again m) (w .write-answers .ensures)
 
 -- What a result says, once it is known to be the counts.
@@ -103,8 +112,8 @@ all-placed c =
     let a = s .args in
     let sized : length (a .glasses) ≡ 64 = search needs in
     says-counts s (c .counts .result) (w .write-answers .result) 0 (c .counts .ensures)
-    (glazed-full (s .pre .0) (r .rows-of .result) (enough r) (r .rows-of .ensures) (m .match-panes .last .1 .1 .0)
-    (m .match-panes .result) (held-long m) sized (best m) (now (a .answers)) (w .write-answers .last .1 .1 .0) (now (a .group))
+    (glazed-full (s .pre .0) (r .rows-of .result) (enough r) (r .rows-of .ensures) (held m)
+    (m .match-panes .result) (held-long m) sized (best m) (now (a .answers)) (answersAfter w) (now (a .group))
     (now (a .group)) (w .write-answers .result) (answered w) refl (t .if1 .taken))
 
 some-left : tie.Need-returns-2
@@ -118,15 +127,15 @@ some-left c =
     let a = s .args in
     let sized : length (a .glasses) ≡ 64 = search needs in
     says-counts s (c .counts2 .result) (w .write-answers .result) (g .write-group .result) (c .counts2 .ensures)
-    (glazed-short (s .pre .0) (r .rows-of .result) (enough r) (r .rows-of .ensures) (m .match-panes .last .1 .1 .0)
-    (m .match-panes .result) (held-long m) sized (best m) (now (a .answers)) (w .write-answers .last .1 .1 .0) (now (a .group))
+    (glazed-short (s .pre .0) (r .rows-of .result) (enough r) (r .rows-of .ensures) (held m)
+    (m .match-panes .result) (held-long m) sized (best m) (now (a .answers)) (answersAfter w) (now (a .group))
     (g .write-group .last .1 .1 .1 .0) (w .write-answers .result) (answered w) (g .write-group .result) (e .if1 .left)
     (g .write-group .ensures))
 
 held-enough : tie.Need-array-share-prefix-held
 held-enough c =
     let m = c .before in
-    rw (length-append (m .match-panes .last .1 .1 .0) (drop (start (rowed (m .before)) .args .pane-count) zeros))
+    rw (length-append (held m) (drop (start (rowed (m .before)) .args .pane-count) zeros))
     (omega (arith, held-long m))
 
 answers-requires : tie.Need-write-answers-requires

@@ -49,7 +49,8 @@ add-placed c =
     let l = c .before .before .before .before .before in
     let s = l .before .before .before in
     let a = s .args in
-    let most = answered-le (a .t2) (now (a .held)) (now (a .answers)) (s .pre) (l .loop .next + 1) _ _ (omega arith) (answered c) in
+    let most =
+    answered-le (a .t2) (now (a .held)) (now (a .answers)) (s .pre) (l .loop .next + 1) _ _ (omega arith) (answered c) in
     record { fits = omega (arith, most, c .one-unless-zero .ensures, s .good) }
 
 with-glass : tie.Need-loop-again Inv-loop μ-loop
