@@ -15,8 +15,11 @@ ghost use Rattle.glass_set.specs.Member.{has};
 ghost use Rattle.matching.specs.Matching.{Greatest};
 ghost use Rattle.matching.specs.Rows.{taskOf, wayOf};
 
-// Gives each pane the number of a glass, or 64, so that no way to give them serves more. The answer is a set of tight glasses:
-// where a pane has none, the panes that can have no glass but these are more than their sheets.
+// What a pane holds where it has no glass; the glasses are numbered from 0.
+pub const NO_GLASS: usize = 64;
+
+// Gives each pane the number of a glass, or `NO_GLASS`, so that no way to give them serves more. The answer is a set of tight
+// glasses: where a pane has no glass, the panes that can have none but these are more than their sheets.
 pub fn match_panes(rows: &[u64], sheets: [u32; 64], held: &mut [usize]) -> u64
     requires { ⌜ length (now held) ≡ length (now rows) ⌝ }
     ensures { λ r. ⌜ Greatest (taskOf (now (rows .entry)) sheets) (wayOf (now (held .exit))) (has r) ⌝ }
@@ -47,7 +50,7 @@ fn clear(held: &mut [usize])
 {
     let mut i = 0;
     while i < held.len() {
-        held[i] = 64;
+        held[i] = NO_GLASS;
         i += 1;
     }
 }
