@@ -1,0 +1,58 @@
+// The rules that the result of a call keeps: document 01, "The placing".
+use crate::answers::check_answers;
+use crate::groups::check_full_group;
+use crate::groups::check_short_group;
+use crate::job::Job;
+use crate::lists::LONGEST;
+
+// What came of a file, or of a call with it: whether all panes were placed, a refusal, or the first rule that was found broken.
+pub(crate) enum Outcome {
+    NotOpened,
+    NotRead,
+    Full,
+    Short,
+    Refused { number: u32, offset: usize },
+    Wrong(Rule),
+}
+
+// The rules, each named for what it is about.
+pub(crate) enum Rule {
+    Refusal,
+    RefusedLists,
+    Wanted,
+    Placed,
+    Stock,
+    Answers,
+    Spare,
+    LaterEntries,
+    FullGroup,
+    EmptyGroup,
+    GroupIds,
+    GroupSheets,
+}
+
+// The counts of a result.
+pub(crate) struct Counts {
+    pub(crate) wanted: usize,
+    pub(crate) placed: usize,
+    pub(crate) group: usize,
+}
+
+// Holds a result, and the lists that the call left, to the rules.
+pub(crate) fn check_result(
+    job: Job,
+    counts: Counts,
+    before: [u32; LONGEST],
+    answers: [u32; LONGEST],
+    group: [u32; LONGEST],
+) -> Outcome {
+    if counts.wanted != job.pane_count {
+        return Outcome::Wrong(Rule::Wanted);
+    }
+    let outcome = check_answers(job, counts.placed, before, answers);
+    match outcome {
+        Outcome::Full => check_full_group(counts.group, before, group),
+        Outcome::Short => check_short_group(job, counts.group, before, group),
+        _ => outcome,
+    }
+}

@@ -1,0 +1,61 @@
+// What is written on standard output, the rest of a file's line; and what is said to people, on standard error.
+use crate::rules::Outcome;
+use crate::rules::Rule;
+use libc::STDERR_FILENO;
+use libc::STDOUT_FILENO;
+
+pub(crate) fn write_outcome(outcome: Outcome) {
+    match outcome {
+        Outcome::NotOpened => write(b"not opened\n"),
+        Outcome::NotRead => write(b"not read\n"),
+        Outcome::Full => write(b"full\n"),
+        Outcome::Short => write(b"short\n"),
+        Outcome::Refused { number, offset } => write_refusal(number, offset),
+        Outcome::Wrong(rule) => write_rule(rule),
+    }
+}
+
+fn write_refusal(number: u32, offset: usize) {
+    write(b"refused ");
+    io::print_decimal(STDOUT_FILENO, number as u64);
+    write(b" ");
+    io::print_decimal(STDOUT_FILENO, offset as u64);
+    write(b"\n");
+}
+
+fn write_rule(rule: Rule) {
+    write(b"wrong: ");
+    match rule {
+        Rule::Refusal => write(b"the call is refused, or not, otherwise than is due\n"),
+        Rule::RefusedLists => write(b"a refused call wrote a list\n"),
+        Rule::Wanted => write(b"wanted is not the number of panes\n"),
+        Rule::Placed => write(b"placed is not the number of answers other than 0\n"),
+        Rule::Stock => write(b"a glass is given more often than it has sheets\n"),
+        Rule::Answers => write(b"an answer is not a glass that passes for its pane\n"),
+        Rule::Spare => write(b"a pane has 0, but a passing glass has a sheet to spare\n"),
+        _ => write_list_rule(rule),
+    }
+}
+
+// The same of the rules on later entries and on the group.
+fn write_list_rule(rule: Rule) {
+    match rule {
+        Rule::LaterEntries => write(
+            b"an entry behind the answers or behind the group was written\n",
+        ),
+        Rule::FullGroup => write(
+            b"all panes are placed, but the group has a count or was written\n",
+        ),
+        Rule::EmptyGroup => write(b"not all panes are placed, but the group is empty\n"),
+        Rule::GroupIds => write(b"a group entry is not the id of a pane, or is there twice\n"),
+        _ => write(b"the group is not short: its glasses have a sheet for each pane\n"),
+    }
+}
+
+pub(crate) fn write(text: &[u8]) {
+    io::write_all(STDOUT_FILENO, text);
+}
+
+pub(crate) fn say_usage() {
+    io::write_all(STDERR_FILENO, b"usage: place_job FILE..\n");
+}
