@@ -64,7 +64,7 @@ fn count_given(pane_count: usize, answers: [u32; LONGEST]) -> usize {
     count
 }
 
-// Takes a sheet for each pane whose answer is a glass that passes for it. Glasses have different ids, so a pane takes one at most.
+// Takes a sheet for each pane whose answer is a glass that passes for it; ids differ, so a pane takes one at most.
 fn take_sheets(
     passes: [bool; 16384],
     answers: [u32; LONGEST],
