@@ -11,7 +11,7 @@ use Rattle.ranges.proofs.Tests.{differ, both-true}
 use Rattle.glass_set.specs.Member.{has, Members, Within, unvisited}
 use Rattle.glass_set.proofs.Members.{has-none, unvisited-less}
 use Rattle.matching.specs.Steps.{Unseen}
-use Rattle.matching.proofs.Chains.{within-with}
+use Rattle.matching.proofs.Growth.{within-with}
 
 -- What is left of a row outside a set.
 module _ (row set rest : ℕ) (is : Members rest (λ g. has row g && not (has set g))) where

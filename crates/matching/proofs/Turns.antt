@@ -1,8 +1,9 @@
 -- A pane's turn, where it waits: what the search makes of how the placing stands.
+--     takenFrom         the sheets left once one more of a glass is given
 --     servable          the pane can be served
---     standing-stuck    it was not served
---     some-left         it was served, by a glass that had a sheet left
---     standing-moved    so it stands
+--     standing-stuck    how it stands where the pane was not served
+--     some-left         the pane was served, and the last glass of the chain had a sheet left
+--     standing-moved    how it stands then
 use Prim.Native.Nat.{ℕ, _+_, _-_, _≤_, _<_}
 use mathlib.Core.Path.{_≡_, refl, ap, sym, _∙_}
 use mathlib.Core.Logic.{_⊎_, inl, inr}

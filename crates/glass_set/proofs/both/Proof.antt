@@ -1,3 +1,4 @@
+-- `both` meets its contract: a bit of `&` is set where both are.
 use Rattle.glass_set.proofs.Members.{has-and}
 use Rattle.glass_set.proofs.both.Statement.{statement}
 use Rattle.glass_set.proofs.both.Tie as tie

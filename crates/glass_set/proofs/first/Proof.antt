@@ -1,3 +1,4 @@
+-- `first` meets its contract: the trailing zeros count up to the first bit that is set.
 use borrow.Author.Needs.{needs}
 use native.Mathlib.Omega.{arith}
 use lib.Count.{trailing-le}

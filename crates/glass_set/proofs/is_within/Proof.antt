@@ -1,3 +1,4 @@
+-- `is_within` meets its contract: nothing is left of the set without the other.
 use borrow.Author.Needs.{needs}
 use Rattle.glass_set.proofs.Members.{within-minus}
 use Rattle.glass_set.proofs.is_within.Statement.{statement}

@@ -1,3 +1,4 @@
+-- `with` meets its contract: a bit of `|` is set where one of them is.
 use borrow.Author.Needs.{needs}
 use lib.Bits.{or-comm}
 use Rattle.glass_set.proofs.Members.{has-or, has-one}

@@ -1,3 +1,4 @@
+-- `without` meets its contract: a bit of `!` is set where the glass's is not.
 use Prim.Native.Nat.{_*_, _%_, _^_}
 use borrow.Author.Needs.{needs}
 use native.Mathlib.Omega.{arith}

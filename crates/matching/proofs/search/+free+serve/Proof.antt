@@ -14,7 +14,10 @@ use Rattle.glass_set.specs.Member.{has, unvisited}
 use Rattle.matching.specs.Steps.{Grown}
 use Rattle.glass_set.proofs.Members.{unvisited-le}
 use Rattle.matching.specs.Steps.{Unseen, NotFreed}
-use Rattle.matching.proofs.Chains.{unseen-back, grown-none, serve-spare, serve-moved, serve-on, free-moved, Passed, free-other, free-on, served-of, not-served-of, freed-of, not-freed-of}
+use Rattle.matching.proofs.Growth.{unseen-back, grown-none}
+use Rattle.matching.proofs.Serving.{serve-spare, serve-moved, serve-on}
+use Rattle.matching.proofs.Freeing.{free-moved, Passed, free-other, free-on}
+use Rattle.matching.proofs.Cases.{served-of, not-served-of, freed-of, not-freed-of}
 use Rattle.matching.proofs.Choices.{at-hand, none-at-hand, rest-at, rest-none, now-marked, fewer}
 use denote.Ref.{now}
 use Rattle.matching.proofs.search.free.Reads as free

@@ -1,15 +1,11 @@
--- Laws of the search, one for each way through `serve` and `free`: what the calls below leave is what the call leaves.
---     unseen-back, within-with         sets that grow
---     grown-none, grown-more           a set that has grown by exhausted glasses
---     serve-spare                      a spare sheet is taken
---     serve-moved                      another pane has left a glass
---     serve-on, serve-stuck            none has; no glass is left
---     free-moved                       a holder has moved
---     free-other, free-on              the pane is no holder, or can't move
+-- The ways through `serve`: what the call of `free` leaves is what `serve` leaves.
+--     serve-spare    a spare sheet is taken
+--     serve-moved    a holder of a glass has moved, and the pane takes its sheet
+--     serve-on       no holder of a glass can move: it is exhausted too
 use Prim.Native.Nat.{ℕ, _+_, _<_}
 use mathlib.Core.Path.{_≡_, refl, ap, subst, subst⁻¹, _∙_}
 use mathlib.Core.Logic.{_⊎_, inl, inr}
-use mathlib.Core.Bool.{Bool, true, false, _||_, or-true}
+use mathlib.Core.Bool.{Bool, true, false, _||_}
 use mathlib.Core.List.{List}
 use native.Mathlib.Omega.{arith}
 use lib.Dec.{eqb}
@@ -17,47 +13,12 @@ use lib.ListN.{length, getD, set}
 use lib.Seq.{getD-set-same, getD-set-other}
 use borrow.Author.Tests.{ne-eqb}
 use Rattle.ranges.specs.Ranges.{one}
-use Rattle.ranges.proofs.Tests.{differ, same-or-not}
+use Rattle.ranges.proofs.Tests.{same-or-not}
 use Rattle.ranges.proofs.Sums.{sum-at}
 use Rattle.glass_set.specs.Member.{has, Members, Within}
-use Rattle.glass_set.proofs.Members.{within-trans, within-out}
-use Rattle.matching.specs.declared.search.Search.{Search}
-use Rattle.matching.specs.declared.search.Search.the-variants.{Moved, Stuck}
-use Rattle.matching.specs.Steps.{Unseen, holding, Exhausted, Grown, Move, stays, moves, Servable, Served, NotServed, Serves, Freed, NotFreed, Frees}
-
--- ---- sets that grow
-
-pub unseen-back : (a b g : ℕ) → Within a b → Unseen b g → Unseen a g
-unseen-back a b g f u = record { below = u .below; out = within-out a b g f (u .below) (u .out) }
-
--- A set with one glass more.
-pub within-with : (a b glass : ℕ) → Members b (λ g. eqb g glass || has a g) → Within a b
-within-with a b glass m g l e = m g l ∙ rw e (or-true (eqb g glass))
-
-module _ (rows held : List ℕ) (spare : ℕ) where
-  exhausted-more : (a b g : ℕ) → Within a b → Exhausted rows held spare a g → Exhausted rows held spare b g
-  exhausted-more a b g f x = record {
-    none-spare = x .none-spare;
-    holders = λ p l e. within-trans (getD rows p 0) a b (x .holders p l e) f;
-  }
-
-  pub grown-none : (seen : ℕ) → Grown rows held spare seen seen
-  grown-none seen = record { keeps = λ g l e. e; exhausted = λ g l e f. differ e f }
-
-  pub grown-more :
-      (seen mid now : ℕ) → Grown rows held spare seen mid → Grown rows held spare mid now → Grown rows held spare seen now
-  grown-more seen mid now a b = record {
-    keeps = within-trans seen mid now (a .keeps) (b .keeps);
-    exhausted = λ g l e f. go g l e f (has mid g) refl;
-  }
-    where
-      go :
-          (g : ℕ) → g < 64 → has now g ≡ true → has seen g ≡ false → (x : Bool) → has mid g ≡ x →
-          Exhausted rows held spare now g
-      go g l e f true is = exhausted-more mid now g (b .keeps) (a .exhausted g l is f)
-      go g l e f false is = b .exhausted g l e is
-
--- ---- a pane is given a glass
+use Rattle.glass_set.proofs.Members.{within-trans}
+use Rattle.matching.specs.Steps.{Unseen, holding, Exhausted, Grown, Move, stays, moves, Servable, Served, Freed, NotFreed}
+use Rattle.matching.proofs.Growth.{unseen-back, within-with, exhausted-more}
 
 -- The panes that hold each glass, after one pane was given another.
 holding-set :
@@ -182,79 +143,3 @@ module _ (rows before : List ℕ) (pane spare seen : ℕ) where
         go i l e out false is (inl same) = rw same (record { none-spare = none; holders = f .rows-seen })
         go i l e out false is (inr other) =
             f .grown .exhausted i l e (is-with i l ∙ rw (ne-eqb i glass other) is)
-
--- ---- a glass is freed
-
-module _ (rows before : List ℕ) (glass spare seen marked : ℕ) (grown : Within seen marked) where
-  -- A holder has moved.
-  pub free-moved :
-      (after : List ℕ) (pane last : ℕ) → getD before pane 0 ≡ glass →
-      Served rows before after pane spare marked last → Freed rows before after glass spare seen last
-  free-moved after pane last is m = record {
-    last-unseen = unseen-back seen marked last grown (m .chain .last-unseen);
-    last-spare = m .chain .last-spare;
-    counts = λ g. rw is at (m .chain .counts g);
-    each = λ p l. go p (m .chain .each p l);
-  }
-    where
-      go :
-          (p : ℕ) → Move rows before after marked p ((p ≡ pane) ⊎ Unseen marked (getD before p 0)) →
-          Move rows before after seen p ((getD before p 0 ≡ glass) ⊎ Unseen seen (getD before p 0))
-      go p (stays e) = stays e
-      go p (moves (inl same) u e) = moves (inl (rw same is)) (unseen-back seen marked (getD after p 0) grown u) e
-      go p (moves (inr v) u e) =
-          moves
-          (inr (unseen-back seen marked (getD before p 0) grown v))
-          (unseen-back seen marked (getD after p 0) grown u)
-          e
-
--- What `free` knows when the panes below `next` are done.
-pub record Passed (rows held : List ℕ) (glass spare seen marked next : ℕ) : Type 0 where
-  pub grown : Grown rows held spare seen marked
-  pub rows-seen : (p : ℕ) → p < next → getD held p 0 ≡ glass → Within (getD rows p 0) marked
-
-module _ (rows held : List ℕ) (glass spare seen marked next : ℕ) (d : Passed rows held glass spare seen marked next) where
-  pub free-other : (getD held next 0 ≡ glass → ⊥) → Passed rows held glass spare seen marked (next + 1)
-  free-other other = record { grown = d .grown; rows-seen = λ p l e. go p e (same-or-not p next) l }
-    where
-      go : (p : ℕ) → getD held p 0 ≡ glass → (p ≡ next) ⊎ (p ≡ next → ⊥) → p < next + 1 → Within (getD rows p 0) marked
-      go p e (inl same) l = absurd (other (rw same at e))
-      go p e (inr ne) l = d .rows-seen p (omega arith) e
-
-  pub free-on : (now : ℕ) → NotServed rows held held next spare marked now → Passed rows held glass spare seen now (next + 1)
-  free-on now n = record {
-    grown = grown-more rows held spare seen marked now (d .grown) (n .grown);
-    rows-seen = λ p l e. go p e (same-or-not p next) l;
-  }
-    where
-      go : (p : ℕ) → getD held p 0 ≡ glass → (p ≡ next) ⊎ (p ≡ next → ⊥) → p < next + 1 → Within (getD rows p 0) now
-      go p e (inl same) l = rw same (n .row-seen)
-      go p e (inr ne) l =
-          within-trans (getD rows p 0) marked now (d .rows-seen p (omega arith) e) (n .grown .keeps)
-
--- ---- what an answer says, by its case, of the list that it was lent
-
-module _ (rows before held after : List ℕ) (a spare seen : ℕ) (answer : Search) (lent : held ≡ before) where
-  pub served-of :
-      (last : ℕ) → answer ≡ Moved last → Serves rows held after a spare seen answer →
-      Served rows before after a spare seen last
-  served-of last case s = rw (case, lent) at s
-
-  pub not-served-of :
-      (now : ℕ) → answer ≡ Stuck now → Serves rows held after a spare seen answer →
-      (after ≡ before) × NotServed rows before before a spare seen now
-  not-served-of now case s =
-      let n : NotServed rows before after a spare seen now = rw (case, lent) at s in
-      (n .unchanged, record { unchanged = refl; grown = n .grown; row-seen = n .row-seen })
-
-  pub freed-of :
-      (last : ℕ) → answer ≡ Moved last → Frees rows held after a spare seen answer →
-      Freed rows before after a spare seen last
-  freed-of last case s = rw (case, lent) at s
-
-  pub not-freed-of :
-      (now : ℕ) → answer ≡ Stuck now → Frees rows held after a spare seen answer →
-      (after ≡ before) × NotFreed rows before before a spare seen now
-  not-freed-of now case s =
-      let n : NotFreed rows before after a spare seen now = rw (case, lent) at s in
-      (n .unchanged, record { unchanged = refl; grown = n .grown; rows-seen = n .rows-seen })
