@@ -1,12 +1,10 @@
 -- The answer to a question, by what a job that was read has of the two ids.
---     few-glasses, few-panes                   the lists are within their arrays
 --     thePane, theGlass                        what the job has of an id
 --     found-pane-values, found-glass-values    what it has is of an accepted file
 --     no-pane, no-glass, judged                each answer
-use Prim.Native.Nat.{ℕ, _≤_}
+use Prim.Native.Nat.{ℕ}
 use mathlib.Core.Path.{_≡_, subst}
 use mathlib.Core.List.{List}
-use native.Mathlib.Omega.{arith}
 use lib.ListN.{take}
 use Rattle.job_glass.specs.GlassLine.{blankGlass}
 use Rattle.job_glass.specs.Values.{GlassValues}
@@ -24,12 +22,6 @@ use Rattle.clauses.specs.Answer.{refuses, verdictSays, answerOf}
 use Rattle.clauses.proofs.Lookups.{with-id-at}
 
 module _ {file : List ℕ} {r : Reading} {glasses panes : ℕ} (job : Job file r glasses panes) where
-  pub few-glasses : glasses ≤ 64
-  few-glasses = omega (arith, job .glass-count, job .rules .of-glasses .at-most)
-
-  pub few-panes : panes ≤ 256
-  few-panes = omega (arith, job .pane-count, job .rules .of-panes .at-most)
-
   -- What the job has of an id.
   abbrev pub thePane : ℕ → Lookup Pane
   thePane id = withId (λ p. p .id) id (take panes (r .panes))
@@ -40,12 +32,12 @@ module _ {file : List ℕ} {r : Reading} {glasses panes : ℕ} (job : Job file r
   pub found-pane-values : (id : ℕ) (p : Pane) → thePane id ≡ entry p → PaneValues p
   found-pane-values id p e =
       let s = with-id-at (λ p. p .id) id blankPane (take panes (r .panes)) p e in
-      subst PaneValues (s .is) (pane-values (job .rules) (s .place) (s .within))
+      subst PaneValues (s .is) (pane-values (job .lists .rules) (s .place) (s .within))
 
   pub found-glass-values : (id : ℕ) (g : Glass) → theGlass id ≡ entry g → GlassValues g
   found-glass-values id g e =
       let s = with-id-at (λ g. g .id) id blankGlass (take glasses (r .glasses)) g e in
-      subst GlassValues (s .is) (glass-values (job .rules) (s .place) (s .within))
+      subst GlassValues (s .is) (glass-values (job .lists .rules) (s .place) (s .within))
 
   module _ (pane glass : ℕ) where
     pub no-pane : thePane pane ≡ missing → answerOf (outcomeOf file) pane glass ≡ refuses 10 0

@@ -13,16 +13,14 @@ use Rattle.job_part.specs.declared.Cause.{Cause}
 use Rattle.job_part.proofs.Kept.{clash}
 use Rattle.job_file.specs.File.{Outcome, accepted, refused, outcomeOf}
 use Rattle.job_file.specs.Answer.{refuses, says, answerOf, Reads}
-use Rattle.job_file.specs.Rules.{Rules}
+use Rattle.job_file.specs.Rules.{AtFront}
 use Rattle.job_file.specs.declared.Checked.the-variants.{Accepted, Refused}
 use Rattle.job_file.specs.declared.Reading.{Reading}
 use Rattle.job_file.proofs.Accepted.{accepted-rules}
 
 pub record Job (file : List ℕ) (r : Reading) (glasses panes : ℕ) : Type 0 where
   pub outcome : outcomeOf file ≡ accepted (take glasses (r .glasses)) (take panes (r .panes))
-  pub glass-count : length (take glasses (r .glasses)) ≡ glasses
-  pub pane-count : length (take panes (r .panes)) ≡ panes
-  pub rules : Rules (take glasses (r .glasses)) (take panes (r .panes))
+  pub lists : AtFront (r .glasses) glasses (r .panes) panes
 
 -- The list at the front of a padded array.
 front : {A : Type 0} (size n : ℕ) (blank : A) (xs array : List A) → array ≡ padded size blank xs → n ≡ length xs → take n array ≡ xs
@@ -40,9 +38,11 @@ job-read file r n m reads case = go (outcomeOf file) refl reads
         let second = front 256 m _ ps (r .panes) (reads .panes) panes in
         record {
           outcome = rw (first, second) is;
-          glass-count = rw first (sym glasses);
-          pane-count = rw second (sym panes);
-          rules = rw (first, second) (accepted-rules file gs ps is);
+          lists = record {
+            glass-count = rw first (sym glasses);
+            pane-count = rw second (sym panes);
+            rules = rw (first, second) (accepted-rules file gs ps is);
+          };
         }
     go (refused cause at) is reads = let answer = ap says (sym case) ∙ reads .answer in clash (cc)
 

@@ -1,4 +1,5 @@
 pub mod Trailers
 pub mod Files
 pub mod Accepted
+pub mod Fronts
 pub mod Jobs

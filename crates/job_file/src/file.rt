@@ -9,7 +9,6 @@ use job_pane::NO_PANE;
 use job_pane::read_panes;
 use job_part::Cause;
 use job_part::PartEnd;
-ghost use mathlib.Core.Path.{_≡_};
 ghost use Prim.Native.Nat.{_≤_};
 ghost use lib.ListN.{length};
 ghost use Rattle.job_file.specs.File.{outcomeOf, partsOutcome, refused};

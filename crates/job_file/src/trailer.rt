@@ -2,7 +2,6 @@
 use job_line::NumberAt;
 use job_line::byte_at;
 use job_line::read_digits;
-ghost use mathlib.Core.Path.{_≡_};
 ghost use lib.ListN.{drop};
 ghost use Rattle.job_file.specs.File.{offset, trailer, trailerRest};
 ghost use Rattle.job_line.specs.Steps.{NumberRead};

@@ -13,6 +13,8 @@ use lib.Seq.{length-take-le, getD-take}
 use Rattle.job_glass.specs.GlassLine.{blankGlass}
 use Rattle.job_glass.specs.declared.Glass.{Glass}
 use Rattle.job_pane.specs.declared.Pane.{Pane}
+use Rattle.job_file.specs.Rules.{AtFront}
+use Rattle.job_file.proofs.Fronts.{few-glasses}
 use Rattle.glass_set.specs.Member.{has}
 use Rattle.matching.specs.Matching.{Greatest}
 use Rattle.matching.specs.Rows.{taskOf, wayOf}
@@ -20,8 +22,7 @@ use Rattle.placing.specs.Passing.{glassAt}
 use Rattle.placing.specs.Placing.{nonzero, stocksOf, Placing, NoneToSpare}
 use Rattle.placing.specs.ShortGroup.{ShortGroup}
 use Rattle.placing.specs.Promise.{counts, Call, call, NoGroup, Group, Glazed}
-use Rattle.placing.specs.Steps.{idsOf, groupTo, confinedTo, written, Read, RowsOf, Answered, confinedIds, Grouped}
-use Rattle.placing.proofs.Reading.{few-glasses}
+use Rattle.placing.specs.Steps.{idsOf, groupTo, confinedTo, written, RowsOf, Answered, confinedIds, Grouped}
 use Rattle.placing.proofs.Numbers.{id-past}
 use Rattle.placing.proofs.Writes.{first-written, map-same}
 use Rattle.placing.proofs.Bridge.{Bridge, held-passes, is-placing, none-spare}
@@ -34,7 +35,7 @@ stock-at glasses g = List·getD-map (λ x. x .stock) glasses g blankGlass
 
 module _
     {glassArray : List Glass} {glasses : ℕ} {paneArray : List Pane} {panes : ℕ}
-    (r : Read glassArray glasses paneArray panes)
+    (r : AtFront glassArray glasses paneArray panes)
     (rows : List ℕ)
     (enough : panes ≤ length rows)
     (are-rows : RowsOf (take panes paneArray) (take glasses glassArray) rows)

@@ -7,7 +7,6 @@ pub mod Others
 pub mod Groups
 pub mod Shortage
 -- What the code writes and reads, entry by entry.
-pub mod Reading
 pub mod Writes
 pub mod Bits
 -- The promise of the call, from what its parts leave.

@@ -2,10 +2,11 @@
 use borrow.Author.Needs.{needs}
 use mathlib.Core.Path.{_≡_, ap, sym, _∙_}
 use denote.Ref.{now}
+use Rattle.job_file.proofs.Fronts.{few-glasses, few-panes}
 use Rattle.job_file.proofs.Jobs.{Job, job-read, refusal-read}
 use Rattle.clauses.specs.Lookup.{entry, paneFound, glassFound}
 use Rattle.clauses.specs.Answer.{verdictSays, answerOf}
-use Rattle.clauses.proofs.Answers.{few-panes, few-glasses, thePane, theGlass, found-pane-values, found-glass-values, no-pane, no-glass, judged}
+use Rattle.clauses.proofs.Answers.{thePane, theGlass, found-pane-values, found-glass-values, no-pane, no-glass, judged}
 use Rattle.clauses.proofs.verdict.Statement.{statement}
 use Rattle.clauses.proofs.verdict.Tie as tie
 
@@ -84,10 +85,10 @@ verdict-spec =
     (λ c κs. search needs)
     (λ c. search needs)
     (λ c. search needs)
-    (λ c κs. few-panes (job (c .before .before .before)))
+    (λ c κs. few-panes (job (c .before .before .before) .lists))
     (λ c. search needs)
     (λ c. search needs)
-    (λ c κs. few-glasses (job (accepted (pane-arm (c .before)))))
+    (λ c κs. few-glasses (job (accepted (pane-arm (c .before))) .lists))
     (λ c. search needs)
     (λ c. search needs)
     judge-requires

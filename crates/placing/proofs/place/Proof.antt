@@ -29,7 +29,7 @@ no-answers c =
     let a = start k .args in
     let j = job k in
     promised-short (outcomeOf (now (a .file))) (now (a .answers)) (now (a .group)) _ _ (j .outcome)
-    (inl (omega (arith, j .pane-count, c .if1 .taken)))
+    (inl (omega (arith, j .lists .pane-count, c .if1 .taken)))
 
 no-group : tie.Need-returns-2
 no-group c =
@@ -37,7 +37,7 @@ no-group c =
     let a = start k .args in
     let j = job k in
     promised-short (outcomeOf (now (a .file))) (now (a .answers)) (now (a .group)) _ _ (j .outcome)
-    (inr (omega (arith, j .pane-count, c .if2 .taken)))
+    (inr (omega (arith, j .lists .pane-count, c .if2 .taken)))
 
 refused : tie.Need-returns-3
 refused c =
@@ -53,7 +53,7 @@ panes-requires c κs =
     let e = c .before .before .before .before in
     let k = e .before .before .before in
     let j = job k in (
-      record { glass-count = j .glass-count; pane-count = j .pane-count; rules = j .rules },
+      j .lists,
       e .before .if1 .left,
       e .if2 .left,
     )
@@ -67,8 +67,8 @@ glazed c =
     let j = job k in
     promised-glazed (outcomeOf (now (a .file))) (now (a .answers)) (now (a .group)) _ _ (j .outcome)
     (says (p .place-panes .result)) (p .place-panes .last .1 .1 .1 .1 .0) (p .place-panes .last .1 .1 .1 .1 .1 .0)
-    (omega (arith, j .pane-count, e .before .if1 .left))
-    (omega (arith, j .pane-count, e .if2 .left))
+    (omega (arith, j .lists .pane-count, e .before .if1 .left))
+    (omega (arith, j .lists .pane-count, e .if2 .left))
     (p .place-panes .ensures)
 
 pub place-spec : {M : Type 1} → statement M

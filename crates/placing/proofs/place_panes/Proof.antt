@@ -15,7 +15,7 @@ use Rattle.placing.specs.Promise.{counts, says, call, Glazed}
 use Rattle.placing.specs.Steps.{Answered}
 use Rattle.placing.specs.declared.Placed.{Placed}
 use Rattle.placing.specs.declared.Placed.the-variants.{Counts}
-use Rattle.placing.proofs.Reading.{few-panes}
+use Rattle.job_file.proofs.Fronts.{few-panes}
 use Rattle.placing.proofs.Glazing.{glazed-full, glazed-short}
 use Rattle.placing.proofs.place_panes.Statement.{statement}
 use Rattle.placing.proofs.place_panes.Tie as tie
