@@ -7,9 +7,8 @@ use Prim.Native.Nat.{ℕ, _+_, _<_}
 use mathlib.Core.Path.{_≡_}
 use mathlib.Core.Logic.{_⊎_, inl, inr}
 use mathlib.Core.List.{List}
-use native.Mathlib.Omega.{arith}
 use lib.ListN.{getD}
-use Rattle.ranges.proofs.Tests.{same-or-not}
+use Rattle.ranges.proofs.Tests.{one-more}
 use Rattle.glass_set.specs.Member.{Within}
 use Rattle.glass_set.proofs.Members.{within-trans}
 use Rattle.matching.specs.Steps.{Unseen, Grown, Move, stays, moves, Served, NotServed, Freed}
@@ -45,19 +44,17 @@ pub record Passed (rows held : List ℕ) (glass spare seen marked next : ℕ) : 
 
 module _ (rows held : List ℕ) (glass spare seen marked next : ℕ) (d : Passed rows held glass spare seen marked next) where
   pub free-other : (getD held next 0 ≡ glass → ⊥) → Passed rows held glass spare seen marked (next + 1)
-  free-other other = record { grown = d .grown; rows-seen = λ p l e. go p e (same-or-not p next) l }
-    where
-      go : (p : ℕ) → getD held p 0 ≡ glass → (p ≡ next) ⊎ (p ≡ next → ⊥) → p < next + 1 → Within (getD rows p 0) marked
-      go p e (inl same) l = absurd (other (rw same at e))
-      go p e (inr ne) l = d .rows-seen p (omega arith) e
+  free-other other = record {
+    grown = d .grown;
+    rows-seen =
+        one-more (λ p. getD held p 0 ≡ glass → Within (getD rows p 0) marked) next (d .rows-seen) (λ e. absurd (other e));
+  }
 
   pub free-on : (now : ℕ) → NotServed rows held held next spare marked now → Passed rows held glass spare seen now (next + 1)
   free-on now n = record {
     grown = grown-more rows held spare seen marked now (d .grown) (n .grown);
-    rows-seen = λ p l e. go p e (same-or-not p next) l;
+    rows-seen =
+        one-more (λ p. getD held p 0 ≡ glass → Within (getD rows p 0) now) next
+        (λ p l e. within-trans (getD rows p 0) marked now (d .rows-seen p l e) (n .grown .keeps))
+        (λ e. n .row-seen);
   }
-    where
-      go : (p : ℕ) → getD held p 0 ≡ glass → (p ≡ next) ⊎ (p ≡ next → ⊥) → p < next + 1 → Within (getD rows p 0) now
-      go p e (inl same) l = rw same (n .row-seen)
-      go p e (inr ne) l =
-          within-trans (getD rows p 0) marked now (d .rows-seen p (omega arith) e) (n .grown .keeps)

@@ -50,7 +50,6 @@ module _ (rows before : List ℕ) (pane spare seen : ℕ) where
           each = λ p l. go has-unseen has-passing p (same-or-not p pane);
         };
         has-unseen = has-unseen;
-        has-passing = has-passing;
       }
     where
       go :
@@ -104,7 +103,6 @@ module _ (rows before : List ℕ) (pane spare seen : ℕ) where
               each = λ p l. go has-unseen has-passing p (same-or-not p pane) (freed .each p l);
             };
             has-unseen = has-unseen;
-            has-passing = has-passing;
           }
         where
           go :

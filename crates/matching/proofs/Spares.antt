@@ -4,7 +4,6 @@
 --     after-some, after-none                   one glass has some sheets left, or none
 use Prim.Native.Nat.{ℕ, _+_, _≤_, _<_}
 use mathlib.Core.Path.{_≡_, refl, _∙_}
-use mathlib.Core.Logic.{_⊎_, inl, inr}
 use mathlib.Core.Bool.{Bool, true, false, not, _&&_, _||_}
 use mathlib.Core.List.{List}
 use native.Mathlib.Omega.{arith}
@@ -12,7 +11,7 @@ use lib.Dec.{ltb, eqb}
 use lib.ListN.{getD}
 use borrow.Author.Tests.{eq-eqb, ne-eqb, lt-ltb, le-ltb}
 use Rattle.job_line.specs.Bytes.{if_then_else_}
-use Rattle.ranges.proofs.Tests.{same-or-not}
+use Rattle.ranges.proofs.Tests.{one-more}
 use Rattle.glass_set.specs.Member.{has, Members}
 use Rattle.glass_set.proofs.Members.{has-none}
 
@@ -27,28 +26,20 @@ module _ (sheets : List ℕ) (spare next : ℕ) (c : Counted sheets spare next) 
   pub counted-in :
       (more : ℕ) → Members more (λ g. eqb g next || has spare g) → 0 < getD sheets next 0 → Counted sheets more (next + 1)
   counted-in more is some = record {
-    done = λ g l k. is g k ∙ done g l k (same-or-not g next);
+    done =
+        one-more (λ g. g < 64 → has more g ≡ ltb 0 (getD sheets g 0)) next
+        (λ g l k. is g k ∙ rw (ne-eqb g next (λ e. omega (arith, e))) (c .done g l k))
+        (λ k. is next k ∙ rw (eq-eqb next next refl, lt-ltb 0 (getD sheets next 0) some));
     rest = λ g l k. is g k ∙ rw (ne-eqb g next (λ e. omega (arith, e)), c .rest g (omega arith) k);
   }
-    where
-      done :
-          (g : ℕ) → g < next + 1 → g < 64 → (g ≡ next) ⊎ (g ≡ next → ⊥) →
-          (eqb g next || has spare g) ≡ ltb 0 (getD sheets g 0)
-      done g l k (inl same) = rw (eq-eqb g next same, same, lt-ltb 0 (getD sheets next 0) some)
-      done g l k (inr other) = rw (ne-eqb g next other) (c .done g (omega arith) k)
 
   pub counted-out : getD sheets next 0 ≤ 0 → Counted sheets spare (next + 1)
   counted-out none = record {
-    done = λ g l k. done g l k (same-or-not g next);
+    done =
+        one-more (λ g. g < 64 → has spare g ≡ ltb 0 (getD sheets g 0)) next (c .done)
+        (λ k. c .rest next (omega arith) k ∙ rw (le-ltb 0 (getD sheets next 0) none));
     rest = λ g l k. c .rest g (omega arith) k;
   }
-    where
-      empty : getD sheets next 0 ≤ 0
-      empty = none
-
-      done : (g : ℕ) → g < next + 1 → g < 64 → (g ≡ next) ⊎ (g ≡ next → ⊥) → has spare g ≡ ltb 0 (getD sheets g 0)
-      done g l k (inl same) = c .rest g (omega arith) k ∙ rw (same, le-ltb 0 (getD sheets next 0) empty)
-      done g l k (inr other) = c .done g (omega arith) k
 
 module _ (spare glass rest : ℕ) where
   pub after-some :

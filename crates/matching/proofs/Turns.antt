@@ -16,7 +16,7 @@ use lib.Seq.{getD-set-same, getD-set-other}
 use borrow.Author.Tests.{eq-eqb, ne-eqb, ltb-true, ltb-false}
 use Rattle.job_line.specs.Bytes.{if_then_else_}
 use Rattle.ranges.specs.Ranges.{one}
-use Rattle.ranges.proofs.Tests.{differ, same-or-not}
+use Rattle.ranges.proofs.Tests.{differ, same-or-not, one-more}
 use Rattle.glass_set.specs.Member.{has, Members, Within}
 use Rattle.glass_set.proofs.Members.{within-trans}
 use Rattle.matching.specs.Rows.{wayOf}
@@ -54,7 +54,10 @@ module _
       waiting = λ p k l. s .waiting p (omega arith) l;
       all-given = λ g l e. given g l e (has tight g) refl;
       holders = λ p l h. kept p l h (has tight (wayOf held p)) refl;
-      left-over = λ p l k e. over p l k e (same-or-not p next);
+      left-over =
+          one-more (λ p. p < length rows → wayOf held p ≡ 64 → Within (getD rows p 0) now) next
+          (λ p l k e. wider p (s .left-over p l k e))
+          (λ k e. n .row-seen);
     }
       where
         given : (g : ℕ) → g < 64 → has now g ≡ true → (x : Bool) → has tight g ≡ x → getD left g 0 ≡ 0
@@ -71,12 +74,6 @@ module _
             Within (getD rows p 0) now
         kept p l h true is = wider p (s .holders p l (record { below = h .below; in-set = is }))
         kept p l h false is = n .grown .exhausted (wayOf held p) (h .below) (h .in-set) is .holders p l refl
-
-        over :
-            (p : ℕ) → p < next + 1 → p < length rows → wayOf held p ≡ 64 → (p ≡ next) ⊎ (p ≡ next → ⊥) →
-            Within (getD rows p 0) now
-        over p l k e (inl same) = rw same (n .row-seen)
-        over p l k e (inr other) = wider p (s .left-over p (omega arith) k e)
 
     module _
         (after : List ℕ) (last : ℕ) (long : length after ≡ length held)
@@ -138,7 +135,10 @@ module _
               waiting = λ p k l. waits-on p k l (m .chain .each p l);
               all-given = λ g l e. given g l e (same-or-not g last);
               holders = λ p l h. kept p l h (m .chain .each p l);
-              left-over = λ p l k e. over p l k e (m .chain .each p k) (same-or-not p next);
+              left-over =
+                  one-more (λ p. p < length rows → wayOf after p ≡ 64 → Within (getD rows p 0) tight) next
+                  (λ p l k e. over p l k e (m .chain .each p k))
+                  (λ k e. absurd (omega (arith, e, m .has-unseen .below)));
             }
               where
                 Moves : ℕ → Type 0
@@ -165,8 +165,6 @@ module _
                 kept p l h (moves from to e) = differ (h .in-set) (to .out)
 
                 over :
-                    (p : ℕ) → p < next + 1 → p < length rows → wayOf after p ≡ 64 → Moves p →
-                    (p ≡ next) ⊎ (p ≡ next → ⊥) → Within (getD rows p 0) tight
-                over p l k e move (inl same) = absurd (omega (arith, rw same at e, m .has-unseen .below))
-                over p l k e (stays f) (inr other) = s .left-over p (omega arith) k (sym f ∙ e)
-                over p l k e (moves from to f) (inr other) = absurd (omega (arith, e, to .below))
+                    (p : ℕ) → p < next → p < length rows → wayOf after p ≡ 64 → Moves p → Within (getD rows p 0) tight
+                over p l k e (stays f) = s .left-over p l k (sym f ∙ e)
+                over p l k e (moves from to f) = absurd (omega (arith, e, to .below))

@@ -58,7 +58,6 @@ pub record Served (rows before after : List ℕ) (pane spare seen last : ℕ) : 
   pub chain :
       Chain rows before after spare seen (getD before pane 0) last (λ p. (p ≡ pane) ⊎ Unseen seen (getD before p 0))
   pub has-unseen : Unseen seen (getD after pane 0)
-  pub has-passing : has (getD rows pane 0) (getD after pane 0) ≡ true
 
 pub record NotServed (rows before after : List ℕ) (pane spare seen now : ℕ) : Type 0 where
   pub unchanged : after ≡ before

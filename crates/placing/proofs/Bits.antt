@@ -18,7 +18,7 @@ use borrow.Author.Tests.{eq-eqb, ne-eqb, lt-ltb, le-ltb, ltb-true, ltb-false}
 use Rattle.job_glass.specs.GlassLine.{blankGlass}
 use Rattle.job_glass.specs.declared.Glass.{Glass}
 use Rattle.job_pane.specs.declared.Pane.{Pane}
-use Rattle.ranges.proofs.Tests.{same-or-not}
+use Rattle.ranges.proofs.Tests.{same-or-not, one-more}
 use Rattle.glass_set.specs.Member.{has, Members}
 use Rattle.glass_set.proofs.Members.{has-none}
 use Rattle.placing.specs.Passing.{passes, paneAt, glassAt}
@@ -84,9 +84,8 @@ pub rows-next :
     RowsTo panes glasses n rows → RowOf (paneAt panes n) glasses row → RowsTo panes glasses (n + 1) (set rows n row)
 rows-next panes glasses n row rows l r is = record {
   long = length-set rows n row ∙ r .long;
-  each = λ p k. go p k (same-or-not p n);
+  each =
+      one-more (λ p. RowOf (paneAt panes p) glasses (getD (set rows n row) p 0)) n
+      (λ p k. rw (getD-set-other rows n p row 0 (λ same. omega (arith, same))) (r .each p k))
+      (rw (getD-set-same rows n row 0 (omega (arith, r .long))) is);
 }
-  where
-    go : (p : ℕ) → p < n + 1 → (p ≡ n) ⊎ (p ≡ n → ⊥) → RowOf (paneAt panes p) glasses (getD (set rows n row) p 0)
-    go p k (inl same) = rw (same, getD-set-same rows n row 0 (omega (arith, r .long))) is
-    go p k (inr other) = rw (getD-set-other rows n p row 0 other) (r .each p (omega arith))

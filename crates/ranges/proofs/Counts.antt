@@ -53,8 +53,8 @@ count-and false test n = sym (count-none (λ i. false) n (λ i l. refl))
 
 module _ (some : ℕ → Bool) where
   -- One of the values below m + 1 is one of those below m, or m.
-  one-more : (x m : ℕ) → one (ltb x (suc m) && some x) ≡ one (ltb x m && some x) + one (some m && eqb x m)
-  one-more x m = go (ltb x (suc m)) refl
+  next-value : (x m : ℕ) → one (ltb x (suc m) && some x) ≡ one (ltb x m && some x) + one (some m && eqb x m)
+  next-value x m = go (ltb x (suc m)) refl
     where
       below : (x ≡ m) ⊎ (x < m) → one (some x) ≡ one (ltb x m && some x) + one (some m && eqb x m)
       below (inl e) = rw (e, le-ltb m m (omega arith), eq-eqb m m refl, and-true (some m)) (omega arith)
@@ -71,7 +71,7 @@ module _ (some : ℕ → Bool) where
         (m : ℕ) →
         countTo (λ i. ltb (value i) (suc m) && some (value i)) n ≡
         countTo (λ i. ltb (value i) m && some (value i)) n + (if some m then countTo (λ i. eqb (value i) m) n else 0)
-    count-more m = rw (count-and (some m)) (sum-cong _ _ n (λ i l. one-more (value i) m) ∙ sum-add _ _ n)
+    count-more m = rw (count-and (some m)) (sum-cong _ _ n (λ i l. next-value (value i) m) ∙ sum-add _ _ n)
 
     pub count-by :
         (m : ℕ) →

@@ -3,8 +3,9 @@
 --     both-true        both of two tests pass
 --     same-or-not      two numbers are equal or not
 --     last-or-below    a number below n + 1 is n or below n
-use Prim.Native.Nat.{ℕ, zero, suc, _<_}
-use mathlib.Core.Path.{_≡_, refl, ap}
+--     one-more         what holds below n, and of n, holds below n + 1
+use Prim.Native.Nat.{ℕ, zero, suc, _+_, _<_}
+use mathlib.Core.Path.{_≡_, refl, ap, subst⁻¹}
 use mathlib.Core.Logic.{_⊎_, inl, inr}
 use mathlib.Core.Bool.{Bool, true, false, _&&_}
 use native.Mathlib.Nat.{le-of-suc-le-suc, eq-or-lt-of-le}
@@ -30,3 +31,11 @@ same-or-not (suc a) (suc b) = go (same-or-not a b)
 
 pub last-or-below : (i n : ℕ) → i < suc n → (i ≡ n) ⊎ (i < n)
 last-or-below i n l = eq-or-lt-of-le (le-of-suc-le-suc l)
+
+pub one-more :
+    (P : ℕ → Type 0) (n : ℕ) → ((i : ℕ) → i < n → P i) → P n → (i : ℕ) → i < n + 1 → P i
+one-more P n below here i l = go (last-or-below i n (omega arith))
+  where
+    go : (i ≡ n) ⊎ (i < n) → P i
+    go (inl same) = subst⁻¹ P same here
+    go (inr k) = below i k
