@@ -15,7 +15,7 @@ use lib.ListN.{length, length-append}
 use borrow.Author.Tests.{leb-true, le-leb}
 use Rattle.job_line.specs.Bytes.{if_then_else_, next, found}
 use Rattle.job_line.specs.Number.{isDigit, digits}
-use Rattle.job_grammar.specs.Written.{writtenDigits}
+use Rattle.job_line.specs.WrittenNumber.{writtenDigits}
 
 pub length-digits : (count n : ℕ) → length (writtenDigits count n) ≡ count
 unfolding writtenDigits

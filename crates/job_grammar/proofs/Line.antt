@@ -17,7 +17,8 @@ use Rattle.job_line.specs.Number.{isDigit, number}
 use Rattle.job_line.specs.Line.{numbers, ended, line}
 use Rattle.job_part.specs.Rules.{Every}
 use Rattle.job_part.proofs.Kept.{clash}
-use Rattle.job_grammar.specs.Written.{writtenNumber, writtenNumbers, writtenLine}
+use Rattle.job_line.specs.WrittenNumber.{writtenNumber, writtenNumbers}
+use Rattle.job_grammar.specs.Written.{writtenLine}
 use Rattle.job_grammar.proofs.Numbers.{written-number, number-read}
 
 abbrev pub Small : List ℕ → Type 0

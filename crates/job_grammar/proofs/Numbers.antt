@@ -13,7 +13,7 @@ use borrow.Author.Tests.{leb-true, eqb-true, eqb-false, lt-ltb, le-ltb, le-leb, 
 use Rattle.job_line.specs.Bytes.{if_then_else_, next, found, nothing}
 use Rattle.job_line.specs.Number.{isDigit, digits, number}
 use Rattle.job_part.proofs.Kept.{clash}
-use Rattle.job_grammar.specs.Written.{writtenDigits, digitCount, writtenNumber}
+use Rattle.job_line.specs.WrittenNumber.{writtenDigits, digitCount, writtenNumber}
 use Rattle.job_grammar.proofs.Digits.{written-digits, no-more-digits, digits-read}
 
 -- A number has one digit more than the power of 10 below it.

@@ -15,7 +15,8 @@ use Rattle.job_line.specs.Bytes.{if_then_else_, newline, space, letterT, next, 
 use Rattle.job_line.specs.Number.{digits}
 use Rattle.job_file.specs.File.{fiveDigits, offset, offsets, noTrailer, trailerRest, trailer}
 use Rattle.job_part.proofs.Kept.{clash}
-use Rattle.job_grammar.specs.Written.{writtenDigits, writtenTrailer}
+use Rattle.job_line.specs.WrittenNumber.{writtenDigits}
+use Rattle.job_grammar.specs.Written.{writtenTrailer}
 use Rattle.job_grammar.proofs.Digits.{length-digits, written-digits, digits-read}
 use Rattle.job_grammar.proofs.Line.{next-is}
 

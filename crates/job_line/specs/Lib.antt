@@ -2,5 +2,7 @@
 pub mod Bytes
 pub mod Number
 pub mod Line
+-- How numbers are written.
+pub mod WrittenNumber
 -- What reading at a position promises.
 pub mod Steps

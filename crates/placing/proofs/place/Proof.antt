@@ -5,7 +5,7 @@ use mathlib.Core.Logic.{inl, inr}
 use denote.Ref.{now}
 use Rattle.job_file.specs.File.{outcomeOf}
 use Rattle.job_file.proofs.Jobs.{Job, job-read, refusal-read}
-use Rattle.placing.specs.Promise.{says}
+use Rattle.placing.specs.Promise.{countsSay}
 use Rattle.placing.proofs.Promises.{promised-refusal, promised-short, promised-glazed}
 use Rattle.placing.proofs.place.Statement.{statement}
 use Rattle.placing.proofs.place.Tie as tie
@@ -66,7 +66,7 @@ glazed c =
     let a = start k .args in
     let j = job k in
     promised-glazed (outcomeOf (now (a .file))) (now (a .answers)) (now (a .group)) _ _ (j .outcome)
-    (says (p .place-panes .result)) (p .place-panes .last .1 .1 .1 .1 .0) (p .place-panes .last .1 .1 .1 .1 .1 .0)
+    (countsSay (p .place-panes .result)) (p .place-panes .last .1 .1 .1 .1 .0) (p .place-panes .last .1 .1 .1 .1 .1 .0)
     (omega (arith, j .lists .pane-count, e .before .if1 .left))
     (omega (arith, j .lists .pane-count, e .if2 .left))
     (p .place-panes .ensures)

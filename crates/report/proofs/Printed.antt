@@ -1,0 +1,141 @@
+-- The promise of `report`, from what was written: the text is at the front of the buffer and is that of the file. The ids of a
+-- job's glasses and panes have at most four digits, so the text of a placing fits.
+--     reported               a text of the file, written to the front of the buffer
+--     printed-refusal        the text of a refusal
+--     printable, printed     what the text of a placing asks of answers, counts and group, and what it is
+use Prim.Native.Nat.{ℕ, zero, suc, _+_, _*_, _≤_, _<_, min}
+use mathlib.Core.Path.{_≡_, refl, ap, ap₂, sym, subst, _∙_}
+use mathlib.Core.Logic.{_⊎_, inl, inr}
+use mathlib.Core.List.{List, [], _∷_, _++_}
+use native.Mathlib.Nat.{min-le-left, min-le-right}
+use native.Mathlib.Omega.{arith}
+use lib.ListN.{length, getD, take, length-take}
+use lib.Seq.{getD-take, length-take-le}
+use Rattle.ranges.proofs.Tests.{same-or-not}
+use Rattle.job_glass.specs.declared.Glass.{Glass}
+use Rattle.job_pane.specs.declared.Pane.{Pane}
+use Rattle.job_glass.specs.GlassLine.{blankGlass}
+use Rattle.job_pane.specs.PaneLine.{blankPane}
+use Rattle.job_file.specs.File.{Outcome, accepted, refused}
+use Rattle.job_file.specs.Rules.{AtFront}
+use Rattle.job_file.proofs.Accepted.{glass-values, pane-values}
+use Rattle.job_file.proofs.Fronts.{few-panes, pane-at}
+use Rattle.placing.specs.Passing.{paneAt}
+use Rattle.placing.specs.Placing.{stocksOf, PassingId}
+use Rattle.placing.specs.Promise.{counts, Call, Group, Glazed}
+use Rattle.placing.proofs.Ids.{nonzero-le}
+use Rattle.report.specs.Text.{pairLine, paneLines, placingText, refusalText}
+use Rattle.report.specs.Promise.{TextOf, TextOfPlacing, Reported}
+use Rattle.report.specs.Steps.{Wrote, FourDigits, PaneIds}
+use Rattle.report.proofs.Wrote.{wrote-front}
+
+pub reported :
+    (o : Outcome) (text before after : List ℕ) (end : ℕ) → TextOf o text → Wrote text 0 before after end →
+    length after ≡ length before → Reported o before after end
+reported o text before after end is w kept =
+    let f = wrote-front text before after end w in
+    let long : min end (length after) ≡ end = sym (length-take end after) ∙ ap length (f .1) ∙ sym (f .0) in
+    record {
+      text = text;
+      of-file = is;
+      count-is = f .0;
+      fits = omega (arith, min-le-right end (length after), long, kept);
+      bytes = f .1;
+      later-kept = f .2;
+    }
+
+pub printed-refusal : (o : Outcome) (number offset : ℕ) → o ≡ refused number offset → TextOf o (refusalText number offset)
+printed-refusal o number offset is = rw is refl
+
+-- The lines of panes go by their ids and answers alone.
+lines-agree :
+    (panes others : List Pane) (answers same : List ℕ) (n : ℕ) →
+    ((k : ℕ) → k < n → paneAt panes k ≡ paneAt others k) → ((k : ℕ) → k < n → getD answers k 0 ≡ getD same k 0) →
+    paneLines panes answers n ≡ paneLines others same n
+unfolding paneLines
+lines-agree panes others answers same zero p a = refl
+lines-agree panes others answers same (suc n) p a =
+    rw (
+      lines-agree panes others answers same n (λ k l. p k (omega arith)) (λ k l. a k (omega arith)),
+      p n (omega arith),
+      a n (omega arith),
+    )
+
+module _
+    (glassArray : List Glass) (glassCount : ℕ) (paneArray : List Pane) (paneCount : ℕ)
+    (front : AtFront glassArray glassCount paneArray paneCount) (c : Call)
+    (g : Glazed (take glassCount glassArray) (stocksOf (take glassCount glassArray)) (take paneCount paneArray) c)
+  where
+    answer-short : (k : ℕ) → k < paneCount → getD (take paneCount (c .answers-after)) k 0 ≤ 9999
+    answer-short k l =
+        go (subst (λ (n : ℕ). getD (take n (c .answers-after)) k 0 ≡ 0 ⊎ PassingId (take glassCount glassArray) (paneAt (take paneCount paneArray) k) (getD (take n (c .answers-after)) k 0)) (front .pane-count) (g .placing .passing k (omega (arith, front .pane-count))))
+      where
+        go :
+            {id : ℕ} → (id ≡ 0) ⊎ PassingId (take glassCount glassArray) (paneAt (take paneCount paneArray) k) id → id ≤ 9999
+        go (inl e) = omega (arith, e)
+        go (inr p) = omega (arith, p .is-id, glass-values (front .rules) (p .place) (p .of-file) .id-high)
+
+    answers-long : length (take paneCount (c .answers-after)) ≡ paneCount
+    answers-long =
+        subst (λ (n : ℕ). length (take n (c .answers-after)) ≡ n) (front .pane-count) (g .placing .one-each)
+
+    -- The group is within its list, and its ids are those of panes.
+    pub group-printable : (g .count ≤ length (c .group-after)) × FourDigits (take (g .count) (c .group-after))
+    group-printable = go (same-or-not (g .placed) (length (take paneCount paneArray)))
+      where
+        listed : Group (take glassCount glassArray) (stocksOf (take glassCount glassArray)) (take paneCount paneArray) (g .count) c → (g .count ≤ length (c .group-after)) × FourDigits (take (g .count) (c .group-after))
+        listed s = (
+          omega (arith, min-le-right (g .count) (length (c .group-after)), length-take (g .count) (c .group-after), s .number),
+          λ k l. let p = s .short-group .of-file k l in
+              omega (arith, p .is-id, pane-values (front .rules) (p .place) (p .of-file) .id-high),
+        )
+
+        go :
+            (g .placed ≡ length (take paneCount paneArray)) ⊎ (g .placed ≡ length (take paneCount paneArray) → ⊥) →
+            (g .count ≤ length (c .group-after)) × FourDigits (take (g .count) (c .group-after))
+        go (inl all) =
+            let none = g .if-equal all .none in
+            (omega (arith, none), λ k l. absurd (omega (arith, l, none, length-take (g .count) (c .group-after), min-le-left (g .count) (length (c .group-after)))))
+        go (inr less) = listed (g .if-less less)
+
+    module _ (wanted placed listed : ℕ) (is : c .result ≡ counts wanted placed listed) where
+      same-placed : placed ≡ g .placed
+      same-placed = let both = sym is ∙ g .result in cc
+
+      same-count : listed ≡ g .count
+      same-count = let both = sym is ∙ g .result in cc
+
+      pub listed-fits : listed ≤ length (c .group-after)
+      listed-fits = rw same-count (group-printable .0)
+
+      pub printable :
+          PaneIds paneArray (take paneCount (c .answers-after)) × FourDigits (take listed (c .group-after)) × (placed ≤ 256)
+      printable = (
+        record {
+          few = omega (arith, answers-long, few-panes front);
+          answers-short = λ k l. answer-short k (omega (arith, answers-long));
+          ids-short = λ k l. pane-at front k (omega (arith, answers-long)) .id-high;
+        },
+        rw same-count (group-printable .1),
+        omega (arith, same-placed, g .placed-is, nonzero-le (take (length (take paneCount paneArray)) (c .answers-after)) (length (take paneCount paneArray)) (g .placing .one-each), front .pane-count, few-panes front),
+      )
+
+      same-lines :
+          paneLines paneArray (take paneCount (c .answers-after)) paneCount
+          ≡ paneLines (take paneCount paneArray) (c .answers-after) paneCount
+      same-lines =
+          lines-agree paneArray (take paneCount paneArray) (take paneCount (c .answers-after)) (c .answers-after) paneCount
+          (λ k l. sym (getD-take paneCount paneArray k blankPane l)) (λ k l. getD-take paneCount (c .answers-after) k 0 l)
+
+      pub printed :
+          (o : Outcome) → o ≡ accepted (take glassCount glassArray) (take paneCount paneArray) →
+          let answers : List ℕ = take paneCount (c .answers-after) in
+          TextOf o (placingText paneArray answers (length answers) placed (take listed (c .group-after)))
+      unfolding placingText
+      printed o accepted-is =
+          rw accepted-is
+          (record {
+            given = c;
+            glazed = g;
+            is-text = rw (answers-long, front .pane-count, same-placed, same-count, same-lines);
+          })

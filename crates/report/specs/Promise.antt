@@ -1,0 +1,33 @@
+-- What the call `report` promises: the text of a file's refusal, or of a placing that keeps the promise of `place`.
+use Prim.Native.Nat.{ℕ, _≤_}
+use mathlib.Core.Path.{_≡_}
+use mathlib.Core.List.{List}
+use lib.ListN.{length, take, drop}
+use Rattle.job_glass.specs.declared.Glass.{Glass}
+use Rattle.job_pane.specs.declared.Pane.{Pane}
+use Rattle.job_file.specs.File.{Outcome, accepted, refused}
+use Rattle.placing.specs.Placing.{stocksOf}
+use Rattle.placing.specs.Promise.{Call, Glazed}
+use Rattle.report.specs.Text.{placingText, refusalText}
+
+-- The text of answers, counts and a group for which all holds that `place` promises of a file that isn't refused.
+pub record TextOfPlacing (glasses : List Glass) (panes : List Pane) (text : List ℕ) : Type 0 where
+  pub given : Call
+  pub glazed : Glazed glasses (stocksOf glasses) panes given
+  pub is-text :
+      text ≡ placingText panes (given .answers-after) (length panes) (glazed .placed) (take (glazed .count) (given .group-after))
+
+-- A text is one that `canopy` may print of a file.
+abbrev pub TextOf : Outcome → List ℕ → Type 0
+TextOf (refused number offset) text = text ≡ refusalText number offset
+TextOf (accepted glasses panes) text = TextOfPlacing glasses panes text
+
+-- What the call leaves in a lent buffer: a text of the file at its front, as many bytes as the call answers. All of it is there,
+-- and later bytes are unchanged.
+pub record Reported (outcome : Outcome) (before after : List ℕ) (count : ℕ) : Type 0 where
+  pub text : List ℕ
+  pub of-file : TextOf outcome text
+  pub count-is : count ≡ length text
+  pub fits : count ≤ length before
+  pub bytes : take count after ≡ text
+  pub later-kept : drop count after ≡ drop count before

@@ -1,0 +1,44 @@
+-- Document 01, "The program `canopy`": the text that it prints. Bytes are ASCII.
+use Prim.Native.Nat.{ℕ, zero, suc}
+use mathlib.Core.List.{List, [], _∷_, _++_}
+use lib.Dec.{eqb}
+use lib.ListN.{getD}
+use Rattle.job_line.specs.Bytes.{if_then_else_, newline}
+use Rattle.job_line.specs.WrittenNumber.{writtenNumber, writtenNumbers}
+use Rattle.job_pane.specs.declared.Pane.{Pane}
+use Rattle.placing.specs.Passing.{paneAt}
+
+-- "Fields are separated by one space, printed numbers have no leading zero, and every line ends in a newline." The first field,
+-- and the numbers behind it.
+abbrev pub lineOf : List ℕ → List ℕ → List ℕ
+lineOf first numbers = first ++ (writtenNumbers numbers ++ (newline ∷ []))
+
+-- A line of two numbers.
+abbrev pub pairLine : ℕ → ℕ → List ℕ
+pairLine a b = lineOf (writtenNumber a) (b ∷ [])
+
+-- "one line per pane in file order (pane id, glass id or 0)": the lines of the first n panes.
+unfoldable pub paneLines : List Pane → List ℕ → ℕ → List ℕ
+paneLines panes answers zero = []
+paneLines panes answers (suc n) = paneLines panes answers n ++ pairLine (paneAt panes n .id) (getD answers n 0)
+
+-- The word `short`.
+abbrev pub short : List ℕ
+short = 115 ∷ 104 ∷ 111 ∷ 114 ∷ 116 ∷ []
+
+-- "If they differ, a last line has `short` and the group's ids."
+abbrev pub shortLine : ℕ → ℕ → List ℕ → List ℕ
+shortLine wanted placed group = if eqb placed wanted then [] else lineOf short group
+
+-- The lines for the panes, "then one line (placed, wanted)", and the last line.
+unfoldable pub placingText : List Pane → List ℕ → ℕ → ℕ → List ℕ → List ℕ
+placingText panes answers wanted placed group =
+    paneLines panes answers wanted ++ (pairLine placed wanted ++ shortLine wanted placed group)
+
+-- The word `refused`.
+abbrev pub refusedWord : List ℕ
+refusedWord = 114 ∷ 101 ∷ 102 ∷ 117 ∷ 115 ∷ 101 ∷ 100 ∷ []
+
+-- "A refused file gives only `refused`, number, offset."
+unfoldable pub refusalText : ℕ → ℕ → List ℕ
+refusalText number offset = lineOf refusedWord (number ∷ offset ∷ [])

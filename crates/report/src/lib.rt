@@ -1,0 +1,49 @@
+// The text that `canopy` prints: document 01, "The program `canopy`".
+//
+// `report` goes from the bytes of a job file to the text, for every list of bytes, as specs/Promise.antt says.
+mod line;
+mod number;
+mod text;
+
+use job_file::Checked;
+use job_file::read_job;
+use job_part::number_of;
+use placing::place_panes;
+use text::write_placing;
+use text::write_refusal;
+ghost use Rattle.job_file.specs.File.{outcomeOf};
+ghost use Rattle.report.specs.Promise.{Reported};
+
+// Writes the text for a file to the front of a buffer, and answers how many bytes it has. The longest text is of 256 panes
+// that are all in the short group, and has 3,851 bytes at most.
+pub fn report(file: &[u8], text: &mut [u8; 4096]) -> usize
+    ensures { λ r. ⌜ Reported (outcomeOf (now (file .entry))) (now (text .entry)) (now (text .exit)) r ⌝ }
+{
+    let reading = read_job(file);
+    let checked = reading.checked;
+    match checked {
+        Checked::Refused { cause, offset } => write_refusal(number_of(cause), offset, text),
+        Checked::Accepted { glasses, panes } => {
+            let the_glasses = reading.glasses;
+            let the_panes = reading.panes;
+            let mut answers = [0u32; 256];
+            let mut group = [0u32; 256];
+            let counts = place_panes(
+                the_glasses,
+                glasses,
+                the_panes,
+                panes,
+                &mut answers,
+                &mut group,
+            );
+            let listed = counts.group;
+            write_placing(
+                the_panes,
+                &answers[..panes],
+                counts.placed,
+                &group[..listed],
+                text,
+            )
+        }
+    }
+}

@@ -1,0 +1,88 @@
+/* Bordavina: sloped glazing from a shared rack of sheets, by AS 1288 Section 6.
+ *
+ * Every call takes the bytes of a job file, asks nothing of them, keeps no state and may be made by several threads at once.
+ * The calls allocate nothing, and read and write no memory but what they are lent. A pointer may be null where its length
+ * is 0. Lent lists do not overlap one another or the file.
+ *
+ * Numbers of refusals (0: none), with the offset where the cause was found, counted in bytes from the start of the file:
+ *
+ *    1  the file has under 14 or over 65,535 bytes                     offset 0
+ *    2  the last 14 bytes are not a trailer                            offset of the trailer, the length less 14
+ *    3  not: glass offset <= pane offset <= length less 14             offset of the trailer
+ *    4  a line is not of its part's form, or lacks its newline         offset of the line
+ *    5  a number is not among its allowed values                       offset of the line
+ *    6  an id is already on an earlier line of its part                offset of the line
+ *    7  a four-edge pane's longer side is over 3 times the shorter     offset of the line
+ *    8  the 65th glass line or the 257th pane line begins              offset of the line
+ *    9  a lent list is shorter than the number of panes                offset 0    (bordavina_place)
+ *   10  no pane of the file has that id                                offset 0    (bordavina_verdict)
+ *   11  no glass of the file has that id                               offset 0    (bordavina_verdict)
+ */
+#ifndef BORDAVINA_H
+#define BORDAVINA_H
+
+#include <stddef.h>
+#include <stdint.h>
+
+#ifdef __cplusplus
+extern "C" {
+#endif
+
+/* At most this many panes does an accepted file have: lists of this length are never too short. */
+#define BORDAVINA_MAX_PANES 256
+
+/* The bytes of a buffer that holds every text. */
+#define BORDAVINA_TEXT_SIZE 4096
+
+/* The answer to a check. Refused: number and offset, and the rest is 0. Accepted: number and offset are 0. */
+typedef struct {
+    size_t number;
+    size_t offset;
+    size_t glasses; /* glass lines */
+    size_t panes;   /* pane lines */
+} bordavina_check_result;
+
+/* The answer to a question. Refused: number and offset, and clause is 0. Else number and offset are 0. */
+typedef struct {
+    size_t number;
+    size_t offset;
+    size_t clause; /* 0: the glass passes; 1 to 4: the first clause that fails */
+} bordavina_verdict_result;
+
+/* The result of a placing. Refused: number and offset, and the rest is 0. Else number and offset are 0. */
+typedef struct {
+    size_t number;
+    size_t offset;
+    size_t wanted; /* panes in the file */
+    size_t placed; /* panes that were given a glass */
+    size_t group;  /* panes in the short group: 0 where placed is wanted */
+} bordavina_place_result;
+
+/* Whether a file is accepted. */
+bordavina_check_result bordavina_check(const uint8_t *file, size_t file_length);
+
+/* Whether the glass of that id may be used for the pane of that id. The clauses: 1 kind, 2 size, 3 point load, 4 uniform
+ * load. The file's own refusal comes first, then 10, then 11. */
+bordavina_verdict_result bordavina_verdict(const uint8_t *file, size_t file_length, uint32_t pane, uint32_t glass);
+
+/* Gives the panes of a file sheets of its rack.
+ *
+ * The first `wanted` entries of `answers`, one for each pane in file order, then hold a glass id for a placed pane and 0 for
+ * another; later entries are untouched. Every given glass passes for its pane, no glass is given more often than its stock,
+ * and a pane with 0 has no passing glass with a sheet to spare. `placed` is `wanted` exactly when some way exists to serve
+ * every pane. If it is not, the first `group` entries of `short_group` are the ids of panes that together have fewer sheets
+ * of glasses that pass for one of them than there are panes in the group; later entries are untouched. If it is, the whole
+ * list is untouched. A refusal leaves both lists untouched; each needs an entry for every pane, or the answer is number 9. */
+bordavina_place_result bordavina_place(const uint8_t *file, size_t file_length,
+                                       uint32_t *answers, size_t answers_length,
+                                       uint32_t *short_group, size_t short_group_length);
+
+/* Writes what the program canopy prints of a file to the front of `text`, and returns how many bytes that is. It is not ended
+ * by a 0; later bytes are untouched. */
+size_t bordavina_report(const uint8_t *file, size_t file_length, uint8_t text[BORDAVINA_TEXT_SIZE]);
+
+#ifdef __cplusplus
+}
+#endif
+
+#endif
