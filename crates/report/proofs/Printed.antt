@@ -31,15 +31,15 @@ use Rattle.report.proofs.Wrote.{wrote-front}
 
 pub reported :
     (o : Outcome) (text before after : List ℕ) (end : ℕ) → TextOf o text → Wrote text 0 before after end →
-    length after ≡ length before → Reported o before after end
-reported o text before after end is w kept =
+    Reported o before after end
+reported o text before after end is w =
     let f = wrote-front text before after end w in
     let long : min end (length after) ≡ end = sym (length-take end after) ∙ ap length (f .1) ∙ sym (f .0) in
     record {
       text = text;
       of-file = is;
       count-is = f .0;
-      fits = omega (arith, min-le-right end (length after), long, kept);
+      fits = omega (arith, min-le-right end (length after), long);
       bytes = f .1;
       later-kept = f .2;
     }

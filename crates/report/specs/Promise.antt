@@ -28,6 +28,6 @@ pub record Reported (outcome : Outcome) (before after : List ℕ) (count : ℕ) 
   pub text : List ℕ
   pub of-file : TextOf outcome text
   pub count-is : count ≡ length text
-  pub fits : count ≤ length before
+  pub fits : count ≤ length after
   pub bytes : take count after ≡ text
   pub later-kept : drop count after ≡ drop count before

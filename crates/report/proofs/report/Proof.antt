@@ -44,7 +44,6 @@ refused c =
     reported (outcomeOf (now (a .file))) (refusalText (n .number-of .result) offset) (now (a .text))
     (c .write-refusal .last .1 .1 .0) (c .write-refusal .result)
     (rw (n .number-of .ensures) (printed-refusal (outcomeOf (now (a .file))) _ offset is)) (c .write-refusal .ensures)
-    (c .write-refusal .kept .1 .1 .0)
 
 -- The lists that are lent for the placing, and what it left in them.
 abbrev zeros : List ℕ
@@ -78,7 +77,7 @@ placed c =
     let a = start k .args in
     reported (outcomeOf (now (a .file))) _ (now (a .text)) (c .write-placing .last .1 .1 .1 .1 .0) (c .write-placing .result)
     (printed _ _ _ _ (job k .lists) (given p) (p .place-panes .ensures) _ _ _ refl (outcomeOf (now (a .file))) (job k .outcome))
-    (c .write-placing .ensures) (c .write-placing .kept .1 .1 .1 .1 .0)
+    (c .write-placing .ensures)
 
 placing-requires : tie.Need-write-placing-requires
 placing-requires c κs =
