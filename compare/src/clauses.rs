@@ -1,0 +1,133 @@
+//! The verdict on a pane and a glass: document 01, "The four clauses".
+
+use crate::job::{Glass, Pane};
+use crate::reader::read;
+use crate::refusal::{Refusal, NO_GLASS, NO_PANE};
+use crate::tables::{DEGREES_A_ROW, MAXIMUM_DEAD_LOADS, MINIMUM_DEAD_LOADS, SPANS};
+
+pub const PASSES: usize = 0;
+pub const FAILS_KIND: usize = 1;
+pub const FAILS_SIZE: usize = 2;
+pub const FAILS_POINT_LOAD: usize = 3;
+pub const FAILS_UNIFORM_LOAD: usize = 4;
+
+/// The nominal thicknesses in mm, in the order of the tables.
+pub const THICKNESSES: [u8; 4] = [6, 8, 10, 12];
+
+/// What the clauses need of a pane, worked out once for all glasses.
+#[derive(Clone, Copy, Debug)]
+pub struct Loads {
+    /// Clause 1: monolithic toughened glass is too high above the floor.
+    laminated_only: bool,
+    w: u16,
+    h: u16,
+    four_edges: bool,
+    /// Which of 0.5, 1.1 and 1.8 kN is the live load, counted from 0.
+    pub live_load: usize,
+    /// Column of the span tables.
+    pub column: usize,
+    /// The span B in mm.
+    pub span: u16,
+    /// The pressure P in units of 0.01 kPa, by thickness.
+    pub pressures: [u32; 4],
+    /// B times B times P, by thickness.
+    bbp: [u64; 4],
+}
+
+impl Loads {
+    pub fn of(pane: &Pane) -> Loads {
+        let span = match pane.edges {
+            2 => pane.w,
+            _ => pane.shorter_side(),
+        };
+        let pressures = THICKNESSES.map(|thick| pressure(pane, thick));
+        Loads {
+            laminated_only: pane.top >= 3_000,
+            w: pane.w,
+            h: pane.h,
+            four_edges: pane.edges == 4,
+            live_load: live_load(pane),
+            column: column(pane),
+            span,
+            pressures,
+            bbp: pressures.map(|p| u64::from(span) * u64::from(span) * u64::from(p)),
+        }
+    }
+
+    /// The first clause that fails, or `PASSES`.
+    pub fn judge(&self, glass: &Glass) -> usize {
+        if self.laminated_only && glass.kind == 4 {
+            return FAILS_KIND;
+        }
+        let along = self.w <= glass.w && self.h <= glass.h;
+        let across = self.w <= glass.h && self.h <= glass.w;
+        if !along && !across {
+            return FAILS_SIZE;
+        }
+        let kind = usize::from(glass.kind) - 1;
+        let thickness = thickness_index(glass.thick);
+        if self.span > SPANS[kind][self.live_load][thickness][self.column] {
+            return FAILS_POINT_LOAD;
+        }
+        let k = u64::from(if self.four_edges {
+            glass.four
+        } else {
+            glass.two
+        });
+        if self.bbp[thickness] > k * k {
+            return FAILS_UNIFORM_LOAD;
+        }
+        PASSES
+    }
+}
+
+/// The place of a thickness of 6, 8, 10 or 12 mm among the four.
+pub fn thickness_index(thick: u8) -> usize {
+    usize::from(thick - 6) / 2
+}
+
+/// The verdict on the pane and the glass of these ids: the first clause that fails, or `PASSES`.
+pub fn verdict(file: &[u8], pane_id: u32, glass_id: u32) -> Result<usize, Refusal> {
+    let job = read(file)?;
+    let mut panes = job.panes().iter();
+    let pane = panes
+        .find(|pane| u32::from(pane.id) == pane_id)
+        .ok_or(Refusal::new(NO_PANE, 0))?;
+    let mut glasses = job.glasses().iter();
+    let glass = glasses
+        .find(|glass| u32::from(glass.id) == glass_id)
+        .ok_or(Refusal::new(NO_GLASS, 0))?;
+    Ok(Loads::of(pane).judge(glass))
+}
+
+fn live_load(pane: &Pane) -> usize {
+    match (pane.awning, pane.angle) {
+        (true, _) => 2,
+        (false, ..=29) => 1,
+        (false, _) => 0,
+    }
+}
+
+fn column(pane: &Pane) -> usize {
+    if pane.edges == 2 {
+        3
+    } else if pane.w == pane.h {
+        0
+    } else if pane.longer_side() <= 2 * pane.shorter_side() {
+        1
+    } else {
+        2
+    }
+}
+
+/// P: the larger of the downward and the upward combination of dead load and wind.
+fn pressure(pane: &Pane, thick: u8) -> u32 {
+    let thick = u32::from(thick);
+    let at_or_below = usize::from(pane.angle / DEGREES_A_ROW);
+    let at_or_above = usize::from(pane.angle.div_ceil(DEGREES_A_ROW));
+    let maximum = (MAXIMUM_DEAD_LOADS[at_or_below] * thick).div_ceil(6);
+    let minimum = MINIMUM_DEAD_LOADS[at_or_above] * thick / 6;
+    let downward = maximum + u32::from(pane.down);
+    let upward = u32::from(pane.up).saturating_sub(minimum);
+    downward.max(upward)
+}

@@ -1,0 +1,181 @@
+//! Panes and glasses on either side of every boundary in document 01, "The four clauses".
+
+use super::plan::{sizes, strong_glass, Plan};
+use crate::clauses::{thickness_index, Loads, THICKNESSES};
+use crate::job::{Glass, Pane};
+use crate::random::Random;
+use crate::tables::SPANS;
+
+/// Pairs of a pane and a glass at some boundary. Every other pair of the job is judged as well.
+pub fn plan(random: &mut Random) -> Plan {
+    let (glasses, panes) = sizes(random);
+    let mut plan = Plan::default();
+    for at in 0..glasses.max(panes) {
+        let (pane, glass) = match random.below(6) {
+            0 => kind(random),
+            1 => size(random),
+            2 | 3 => span(random),
+            4 => pressure(random),
+            _ => allowed_extremes(random),
+        };
+        if at < panes {
+            plan.panes.push(pane);
+        }
+        if at < glasses {
+            let stock = random.pick(&[0, 1, 1, 2, 5, 999]);
+            plan.glasses.push(Glass { stock, ..glass });
+        }
+    }
+    random.shuffle(&mut plan.glasses);
+    plan.number(random);
+    plan
+}
+
+/// A pane for which the strong glass passes.
+fn easy_pane(random: &mut Random) -> Pane {
+    let w = random.between(1, 1_600u16);
+    Pane {
+        id: 0,
+        edges: 4,
+        angle: random.between(30, 74),
+        awning: false,
+        top: random.pick(&[0, 2_500, 2_999, 3_000, 7_000]),
+        w,
+        h: random.between(w, 3 * w),
+        down: random.between(0, 200),
+        up: random.between(0, 200),
+    }
+}
+
+/// Tops about 3000.
+fn kind(random: &mut Random) -> (Pane, Glass) {
+    let pane = Pane {
+        top: random.pick(&[0, 2_999, 3_000, 3_001, 99_999]),
+        ..easy_pane(random)
+    };
+    let glass = Glass {
+        kind: random.pick(&[4, 4, 3, 2]),
+        ..strong_glass()
+    };
+    (pane, glass)
+}
+
+/// Sheets equal to the pane or one mm off, either way round.
+fn size(random: &mut Random) -> (Pane, Glass) {
+    let pane = easy_pane(random);
+    let mut near = |side: u16| (side + random.pick(&[0, 1, 1, 2])).max(2) - 1;
+    let (w, h) = (near(pane.w), near(pane.h));
+    let (w, h) = if random.one_in(2) { (w, h) } else { (h, w) };
+    let glass = Glass {
+        w,
+        h,
+        ..strong_glass()
+    };
+    (pane, glass)
+}
+
+/// Spans at an entry of the tables and one mm off, with sides at the ends of the column.
+fn span(random: &mut Random) -> (Pane, Glass) {
+    let kind = random.between(1, 4u8);
+    let live_load = random.below(3);
+    let thick = random.pick(&THICKNESSES);
+    let column = random.below(4);
+    let entry = SPANS[usize::from(kind) - 1][live_load][thickness_index(thick)][column];
+    let b = (entry + random.pick(&[0, 1, 1, 2, 2])).max(2) - 1;
+    let other = match column {
+        0 => b,
+        1 => random.pick(&[b + 1, 2 * b]),
+        2 => random.pick(&[2 * b + 1, 3 * b]).min(5_000),
+        _ => random.between(1, 5_000),
+    };
+    let turned = column != 3 && random.one_in(2);
+    let angle = match live_load {
+        0 => random.pick(&[30, 31, 45, 74]),
+        1 => random.pick(&[0, 5, 28, 29]),
+        _ => random.between(0, 74),
+    };
+    let pane = Pane {
+        id: 0,
+        edges: if column == 3 { 2 } else { 4 },
+        angle,
+        awning: live_load == 2,
+        top: random.pick(&[0, 2_999, 3_000]),
+        w: if turned { other } else { b },
+        h: if turned { b } else { other },
+        down: 0,
+        up: 0,
+    };
+    let glass = Glass {
+        kind,
+        thick,
+        ..strong_glass()
+    };
+    (pane, glass)
+}
+
+/// Constants K with K times K at B times B times P and beside it, at the rows of the dead loads.
+fn pressure(random: &mut Random) -> (Pane, Glass) {
+    let upward = random.one_in(2);
+    let mut pane = Pane {
+        edges: random.pick(&[2, 4]),
+        angle: 5 * random.between(0, 14u8) + random.pick(&[0, 0, 1, 4]),
+        down: if upward { 0 } else { random.between(0, 900) },
+        up: if upward {
+            random.between(200, 900)
+        } else {
+            random.between(0, 30)
+        },
+        ..easy_pane(random)
+    };
+    let thick = if pane.edges == 2 {
+        12
+    } else {
+        random.pick(&THICKNESSES)
+    };
+    let p = |pane: &Pane| Loads::of(pane).pressures[thickness_index(thick)];
+    if random.one_in(2) {
+        // So much more wind that P is a square, and B times B times P is one too.
+        let root = p(&pane).isqrt() + 1;
+        let more = (root * root - p(&pane)) as u16;
+        let wind = if upward { &mut pane.up } else { &mut pane.down };
+        *wind += more;
+    }
+    let b = u64::from(Loads::of(&pane).span);
+    let k = (b * b * u64::from(p(&pane))).isqrt() + random.pick(&[0, 1, 1, 2]);
+    let k = (k.max(2) - 1).min(99_999) as u32;
+    let other = random.pick(&[1, 99_999]);
+    let glass = Glass {
+        thick,
+        two: if pane.edges == 2 { k } else { other },
+        four: if pane.edges == 4 { k } else { other },
+        ..strong_glass()
+    };
+    (pane, glass)
+}
+
+/// Numbers at the ends of their allowed values.
+fn allowed_extremes(random: &mut Random) -> (Pane, Glass) {
+    let w = random.pick(&[1, 2, 1_666, 1_667, 5_000]);
+    let pane = Pane {
+        id: 0,
+        edges: random.pick(&[2, 4]),
+        angle: random.pick(&[0, 74]),
+        awning: random.one_in(2),
+        top: random.pick(&[0, 99_999]),
+        w,
+        h: random.pick(&[w, 2 * w, 3 * w]).min(5_000),
+        down: random.pick(&[0, 1_000]),
+        up: random.pick(&[0, 1_000]),
+    };
+    let glass = Glass {
+        id: 0,
+        kind: random.pick(&[1, 4]),
+        thick: random.pick(&[6, 12]),
+        w: random.pick(&[1, 9_999]),
+        h: random.pick(&[1, 9_999]),
+        two: random.pick(&[1, 99_999]),
+        four: random.pick(&[1, 99_999]),
+        stock: 0,
+    };
+    (pane, glass)
+}

@@ -1,0 +1,71 @@
+//! The glasses and panes of a job before they are written as lines.
+
+use crate::job::{Glass, Pane, LARGEST_ID, MOST_GLASSES, MOST_PANES};
+use crate::random::Random;
+
+#[derive(Default)]
+pub struct Plan {
+    pub glasses: Vec<Glass>,
+    pub panes: Vec<Pane>,
+}
+
+impl Plan {
+    /// Gives the glasses and the panes ids.
+    pub fn number(&mut self, random: &mut Random) {
+        let glass_ids = ids(self.glasses.len(), random);
+        for (glass, id) in self.glasses.iter_mut().zip(glass_ids) {
+            glass.id = id;
+        }
+        let pane_ids = ids(self.panes.len(), random);
+        for (pane, id) in self.panes.iter_mut().zip(pane_ids) {
+            pane.id = id;
+        }
+    }
+}
+
+/// The numbers of glasses and panes of a job: mostly small, at times the largest.
+pub fn sizes(random: &mut Random) -> (usize, usize) {
+    match random.below(100) {
+        0..=74 => (random.below(9), random.below(13)),
+        75..=91 => (8 + random.below(17), 12 + random.below(37)),
+        92..=95 => (32 + random.below(33), 128 + random.below(129)),
+        _ => (MOST_GLASSES, MOST_PANES),
+    }
+}
+
+/// A glass that passes for every four-edge pane with a span up to 2000 that is no awning and has
+/// 30 degrees or more.
+pub fn strong_glass() -> Glass {
+    Glass {
+        id: 1,
+        kind: 3,
+        thick: 12,
+        w: 9_999,
+        h: 9_999,
+        two: 99_999,
+        four: 99_999,
+        stock: 1,
+    }
+}
+
+/// Different ids: counted up or down, spread over all ids, or the first and the last of them.
+fn ids(count: usize, random: &mut Random) -> Vec<u16> {
+    let largest = LARGEST_ID as u16;
+    let count = count as u16;
+    let first = random.between(1, largest - count);
+    match random.below(4) {
+        0 => (1..=count).collect(),
+        1 => (first..first + count).rev().collect(),
+        2 => {
+            let step = largest / count.max(1);
+            let mut ids: Vec<u16> = (0..count).map(|at| largest - at * step).collect();
+            random.shuffle(&mut ids);
+            ids
+        }
+        _ => {
+            let low = (1..=count / 2).rev();
+            low.chain(largest - count.div_ceil(2) + 1..=largest)
+                .collect()
+        }
+    }
+}

@@ -1,0 +1,155 @@
+//! Jobs that are hard for document 01, "The placing". The sheets rise in width as they fall in
+//! height, so that a pane's sides set any interval of glasses that pass for it.
+
+use super::plan::{sizes, strong_glass, Plan};
+use crate::job::{Glass, Pane};
+use crate::random::Random;
+
+/// A pane's glasses, first and last.
+type Interval = (usize, usize);
+
+pub fn plan(random: &mut Random) -> Plan {
+    let (glasses, panes) = sizes(random);
+    let (glasses, panes) = (glasses.max(2), panes.max(2));
+    let mut shape = match random.below(5) {
+        0 => chain(glasses, random),
+        1 => nested(glasses, panes, random),
+        2 => intervals(glasses, panes, random),
+        3 => shortage(glasses, panes, random),
+        _ => tight(glasses, panes, random),
+    };
+    if random.one_in(2) {
+        random.shuffle(&mut shape.intervals);
+    }
+    if random.one_in(4) {
+        shape.intervals.reverse();
+    }
+    shape.plan(random)
+}
+
+struct Shape {
+    stocks: Vec<u16>,
+    intervals: Vec<Interval>,
+}
+
+impl Shape {
+    fn plan(&self, random: &mut Random) -> Plan {
+        let stocks = self.stocks.iter().enumerate();
+        let mut plan = Plan {
+            glasses: stocks.map(|(at, &stock)| sheet(at, stock)).collect(),
+            panes: self.intervals.iter().map(|&sides| pane(sides)).collect(),
+        };
+        match random.below(4) {
+            0 => random.shuffle(&mut plan.glasses),
+            1 => plan.glasses.reverse(),
+            _ => {}
+        }
+        plan.number(random);
+        plan
+    }
+}
+
+fn sheet(at: usize, stock: u16) -> Glass {
+    Glass {
+        w: 1_000 + 5 * at as u16,
+        h: 2_500 - 5 * at as u16,
+        stock,
+        ..strong_glass()
+    }
+}
+
+/// The pane that lies within the sheets of an interval. Its height is above every sheet's width.
+fn pane((first, last): Interval) -> Pane {
+    Pane {
+        id: 0,
+        edges: 4,
+        angle: 45,
+        awning: false,
+        top: 4_000,
+        w: 1_000 + 5 * first as u16,
+        h: 2_500 - 5 * last as u16,
+        down: 60,
+        up: 95,
+    }
+}
+
+/// Each pane has two neighbouring glasses of one sheet, and a last pane has only an end of the
+/// chain, so that all others have to move. At times one pane more, or one sheet less.
+fn chain(glasses: usize, random: &mut Random) -> Shape {
+    let mut intervals: Vec<Interval> = (0..glasses - 1).map(|at| (at, at + 1)).collect();
+    let end = random.pick(&[0, glasses - 1]);
+    intervals.push((end, end));
+    let mut stocks = vec![1; glasses];
+    match random.below(4) {
+        0 => intervals.push((0, glasses - 1)),
+        1 => stocks[random.below(glasses)] = 0,
+        _ => {}
+    }
+    Shape { stocks, intervals }
+}
+
+/// Intervals that all have one end in common.
+fn nested(glasses: usize, panes: usize, random: &mut Random) -> Shape {
+    let from_front = random.one_in(2);
+    let interval = |other| match from_front {
+        true => (0, other),
+        false => (other, glasses - 1),
+    };
+    let intervals = (0..panes)
+        .map(|_| interval(random.below(glasses)))
+        .collect();
+    Shape {
+        stocks: fair_stocks(glasses, panes, random),
+        intervals,
+    }
+}
+
+fn intervals(glasses: usize, panes: usize, random: &mut Random) -> Shape {
+    let intervals = (0..panes).map(|_| any_interval(glasses, random)).collect();
+    Shape {
+        stocks: fair_stocks(glasses, panes, random),
+        intervals,
+    }
+}
+
+/// Many panes on a narrow interval with few sheets, and many sheets elsewhere.
+fn shortage(glasses: usize, panes: usize, random: &mut Random) -> Shape {
+    let first = random.below(glasses);
+    let last = (first + random.below(4)).min(glasses - 1);
+    let mut stocks: Vec<u16> = (0..glasses).map(|_| random.pick(&[0, 1, 5, 999])).collect();
+    stocks[first..=last].fill(random.pick(&[0, 1, 2]));
+    let many = panes / 2 + random.below(panes / 2 + 1);
+    let mut intervals = vec![(first, last); many];
+    intervals.extend((many..panes).map(|_| any_interval(glasses, random)));
+    Shape { stocks, intervals }
+}
+
+/// As many sheets as panes, and an interval about a sheet for each pane. At times one sheet less.
+fn tight(glasses: usize, panes: usize, random: &mut Random) -> Shape {
+    let mut stocks = vec![0; glasses];
+    let reach = 1 + random.below(6);
+    let mut intervals = Vec::new();
+    for _ in 0..panes {
+        let glass = random.below(glasses);
+        stocks[glass] += 1;
+        let first = glass - random.below(reach).min(glass);
+        let last = (glass + random.below(reach)).min(glasses - 1);
+        intervals.push((first, last));
+    }
+    if random.one_in(3) {
+        let glass = random.below(glasses);
+        stocks[glass] -= stocks[glass].min(1);
+    }
+    Shape { stocks, intervals }
+}
+
+fn any_interval(glasses: usize, random: &mut Random) -> Interval {
+    let (one, other) = (random.below(glasses), random.below(glasses));
+    (one.min(other), one.max(other))
+}
+
+/// Stocks of about as many sheets as panes.
+fn fair_stocks(glasses: usize, panes: usize, random: &mut Random) -> Vec<u16> {
+    let most = (2 * panes / glasses + 1) as u16;
+    (0..glasses).map(|_| random.between(0, most)).collect()
+}

@@ -1,0 +1,109 @@
+//! What an accepted job file says: document 01, "The job file".
+
+pub const MOST_GLASSES: usize = 64;
+pub const MOST_PANES: usize = 256;
+pub const LARGEST_ID: u32 = 9_999;
+
+/// A glass line. Lengths in mm, `two` and `four` in tenths of k1.
+#[derive(Clone, Copy, Debug, Default, PartialEq, Eq)]
+pub struct Glass {
+    pub id: u16,
+    pub kind: u8,
+    pub thick: u8,
+    pub w: u16,
+    pub h: u16,
+    pub two: u32,
+    pub four: u32,
+    pub stock: u16,
+}
+
+impl Glass {
+    /// The glass of a line's numbers, if each is among its allowed values.
+    pub fn of([id, kind, thick, w, h, two, four, stock]: [u32; 8]) -> Option<Glass> {
+        let allowed = (1..=LARGEST_ID).contains(&id)
+            && (1..=4).contains(&kind)
+            && matches!(thick, 6 | 8 | 10 | 12)
+            && (1..=9_999).contains(&w)
+            && (1..=9_999).contains(&h)
+            && (1..=99_999).contains(&two)
+            && (1..=99_999).contains(&four)
+            && stock <= 999;
+        allowed.then_some(Glass {
+            id: id as u16,
+            kind: kind as u8,
+            thick: thick as u8,
+            w: w as u16,
+            h: h as u16,
+            two,
+            four,
+            stock: stock as u16,
+        })
+    }
+}
+
+/// A pane line. Lengths in mm, `down` and `up` in units of 0.01 kPa.
+#[derive(Clone, Copy, Debug, Default, PartialEq, Eq)]
+pub struct Pane {
+    pub id: u16,
+    pub edges: u8,
+    pub angle: u8,
+    pub awning: bool,
+    pub top: u32,
+    pub w: u16,
+    pub h: u16,
+    pub down: u16,
+    pub up: u16,
+}
+
+impl Pane {
+    /// The pane of a line's numbers, if each is among its allowed values.
+    pub fn of([id, edges, angle, awning, top, w, h, down, up]: [u32; 9]) -> Option<Pane> {
+        let allowed = (1..=LARGEST_ID).contains(&id)
+            && matches!(edges, 2 | 4)
+            && angle <= 74
+            && awning <= 1
+            && top <= 99_999
+            && (1..=5_000).contains(&w)
+            && (1..=5_000).contains(&h)
+            && down <= 1_000
+            && up <= 1_000;
+        allowed.then_some(Pane {
+            id: id as u16,
+            edges: edges as u8,
+            angle: angle as u8,
+            awning: awning == 1,
+            top,
+            w: w as u16,
+            h: h as u16,
+            down: down as u16,
+            up: up as u16,
+        })
+    }
+
+    pub fn longer_side(&self) -> u16 {
+        self.w.max(self.h)
+    }
+
+    pub fn shorter_side(&self) -> u16 {
+        self.w.min(self.h)
+    }
+}
+
+/// The glasses and panes of a file, in file order.
+#[derive(Clone, Debug)]
+pub struct Job {
+    pub(crate) glasses: [Glass; MOST_GLASSES],
+    pub(crate) glass_count: usize,
+    pub(crate) panes: [Pane; MOST_PANES],
+    pub(crate) pane_count: usize,
+}
+
+impl Job {
+    pub fn glasses(&self) -> &[Glass] {
+        &self.glasses[..self.glass_count]
+    }
+
+    pub fn panes(&self) -> &[Pane] {
+        &self.panes[..self.pane_count]
+    }
+}

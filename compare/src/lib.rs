@@ -1,0 +1,21 @@
+//! A second implementation of document 01 (the owner's scope document), written from that document alone,
+//! and the checks by which the proved library is compared with it.
+#![forbid(unsafe_code)]
+
+pub mod calls;
+pub mod clauses;
+pub mod comparison;
+pub mod flow;
+pub mod generator;
+pub mod job;
+pub mod lent;
+pub mod outcome;
+pub mod place_call;
+pub mod random;
+pub mod reader;
+pub mod refusal;
+pub mod roof;
+pub mod rules;
+pub mod tables;
+pub mod tally;
+pub mod text;

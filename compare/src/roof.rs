@@ -1,0 +1,51 @@
+//! An accepted job with all its verdicts by document 01, "The four clauses", and the greatest
+//! number of panes that can be served.
+
+use crate::clauses::{Loads, PASSES};
+use crate::flow::most_served;
+use crate::job::Job;
+
+#[derive(Clone, Debug)]
+pub struct Roof {
+    pub job: Job,
+    /// The verdicts: for each pane, the first clause that each glass fails, or `PASSES`.
+    pub clauses: Vec<Vec<usize>>,
+    pub most_served: usize,
+}
+
+impl Roof {
+    pub fn of(job: Job) -> Roof {
+        let verdicts = |pane| {
+            let loads = Loads::of(pane);
+            let glasses = job.glasses().iter();
+            glasses.map(|glass| loads.judge(glass)).collect()
+        };
+        let clauses: Vec<Vec<usize>> = job.panes().iter().map(verdicts).collect();
+        let passing: Vec<Vec<usize>> = clauses.iter().map(|row| passing(row).collect()).collect();
+        let stocks: Vec<u16> = job.glasses().iter().map(|glass| glass.stock).collect();
+        Roof {
+            most_served: most_served(&passing, &stocks),
+            clauses,
+            job,
+        }
+    }
+
+    /// The glasses that pass for a pane.
+    pub fn passing(&self, pane: usize) -> impl Iterator<Item = usize> + '_ {
+        passing(&self.clauses[pane])
+    }
+
+    pub fn pane_of_id(&self, id: u32) -> Option<usize> {
+        let mut panes = self.job.panes().iter();
+        panes.position(|pane| u32::from(pane.id) == id)
+    }
+
+    pub fn glass_of_id(&self, id: u32) -> Option<usize> {
+        let mut glasses = self.job.glasses().iter();
+        glasses.position(|glass| u32::from(glass.id) == id)
+    }
+}
+
+fn passing(row: &[usize]) -> impl Iterator<Item = usize> + '_ {
+    (0..row.len()).filter(|&glass| row[glass] == PASSES)
+}

@@ -1,0 +1,152 @@
+//! What holds of every placing: document 01, "The placing", and its demands 2 and 3.
+
+use crate::clauses::PASSES;
+use crate::roof::Roof;
+
+pub const PASSING: &str = "a pane is only given a glass that passes for it";
+pub const STOCK: &str = "no glass is given to more panes than its stock";
+pub const SPARE: &str = "a pane left with 0 has no passing glass with a sheet to spare";
+pub const WANTED: &str = "wanted is the number of panes in the file";
+pub const PLACED: &str = "placed is the number of nonzero answers";
+pub const ALL_SERVED: &str = "placed is wanted exactly when every pane can be served";
+pub const GREATEST: &str = "placed is the greatest number of panes that can be served";
+pub const NO_GROUP: &str = "the group count is 0 where placed is wanted";
+pub const GROUP: &str = "the short group is non-empty and has panes of the file, each once";
+pub const SHORT: &str =
+    "the sheets of the glasses that pass for the group are fewer than its panes";
+
+/// A rule that does not hold, and where.
+#[derive(Clone, Debug, PartialEq, Eq)]
+pub struct Broken {
+    pub rule: &'static str,
+    pub came: String,
+}
+
+impl Broken {
+    pub fn new(rule: &'static str, came: String) -> Broken {
+        Broken { rule, came }
+    }
+}
+
+/// A placing of a roof, as the call or a text tells it: an answer for each pane, the counts, and
+/// the ids of the short group.
+pub struct Placing<'a> {
+    pub answers: &'a [u32],
+    pub placed: usize,
+    pub wanted: usize,
+    pub group: &'a [u32],
+}
+
+/// The broken rules of what a placing says.
+pub fn check_placing(roof: &Roof, placing: &Placing) -> Vec<Broken> {
+    let mut broken = Vec::new();
+    let Placing {
+        answers,
+        placed,
+        wanted,
+        group,
+    } = *placing;
+    let panes = roof.job.panes().len();
+    if wanted != panes {
+        let came = format!("wanted {wanted} with {panes} panes");
+        broken.push(Broken::new(WANTED, came));
+    }
+    let nonzero = answers.iter().filter(|&&answer| answer != 0).count();
+    if placed != nonzero {
+        let came = format!("placed {placed} with {nonzero} nonzero answers");
+        broken.push(Broken::new(PLACED, came));
+    }
+    check_answers(roof, answers, &mut broken);
+
+    let most = roof.most_served;
+    if (placed == wanted) != (most == panes) {
+        let came = format!("placed {placed} of {wanted} where {most} can be served");
+        broken.push(Broken::new(ALL_SERVED, came));
+    } else if nonzero < most {
+        let came = format!("fewer than the greatest number: {nonzero} placed, {most} possible");
+        broken.push(Broken::new(GREATEST, came));
+    }
+
+    if placed != wanted {
+        check_group(roof, group, &mut broken);
+    } else if !group.is_empty() {
+        broken.push(Broken::new(NO_GROUP, format!("a group of {}", group.len())));
+    }
+    broken
+}
+
+fn check_answers(roof: &Roof, answers: &[u32], broken: &mut Vec<Broken>) {
+    let panes = roof.job.panes();
+    let glasses = roof.job.glasses();
+    let mut given = vec![0; glasses.len()];
+    for (pane, &answer) in answers.iter().enumerate() {
+        if answer == 0 {
+            continue;
+        }
+        let glass = roof.glass_of_id(answer);
+        let clause = glass.map(|glass| roof.clauses[pane][glass]);
+        if clause != Some(PASSES) {
+            let reason = match clause {
+                Some(clause) => format!("which fails by clause {clause}"),
+                None => "which is no glass of the file".to_string(),
+            };
+            let came = format!("pane {} has {answer}, {reason}", panes[pane].id);
+            broken.push(Broken::new(PASSING, came));
+        }
+        if let Some(glass) = glass {
+            given[glass] += 1;
+        }
+    }
+    for (glass, &count) in glasses.iter().zip(&given) {
+        if count > glass.stock {
+            let came = format!(
+                "glass {} with {} sheets is given {count} times",
+                glass.id, glass.stock
+            );
+            broken.push(Broken::new(STOCK, came));
+        }
+    }
+    for pane in (0..panes.len()).filter(|&pane| answers[pane] == 0) {
+        let mut passing = roof.passing(pane);
+        if let Some(glass) = passing.find(|&glass| given[glass] < glasses[glass].stock) {
+            let came = format!(
+                "pane {} has 0, and glass {} passes and is given {} of {} times",
+                panes[pane].id, glasses[glass].id, given[glass], glasses[glass].stock
+            );
+            broken.push(Broken::new(SPARE, came));
+        }
+    }
+}
+
+fn check_group(roof: &Roof, group: &[u32], broken: &mut Vec<Broken>) {
+    if group.is_empty() {
+        broken.push(Broken::new(GROUP, "an empty group".to_string()));
+    }
+    let mut in_group = vec![false; roof.job.panes().len()];
+    let mut counted = vec![false; roof.job.glasses().len()];
+    for &id in group {
+        let Some(pane) = roof.pane_of_id(id) else {
+            let came = format!("{id} in the group is no pane of the file");
+            broken.push(Broken::new(GROUP, came));
+            continue;
+        };
+        if in_group[pane] {
+            let came = format!("pane {id} is in the group twice");
+            broken.push(Broken::new(GROUP, came));
+        }
+        in_group[pane] = true;
+        for glass in roof.passing(pane) {
+            counted[glass] = true;
+        }
+    }
+    let panes = in_group.iter().filter(|&&member| member).count();
+    let stocks = roof.job.glasses().iter().zip(&counted);
+    let sheets: usize = stocks
+        .filter(|(_, &counted)| counted)
+        .map(|(glass, _)| usize::from(glass.stock))
+        .sum();
+    if sheets >= panes && panes > 0 {
+        let came = format!("a group of {panes} panes with {sheets} sheets");
+        broken.push(Broken::new(SHORT, came));
+    }
+}

@@ -1,0 +1,61 @@
+//! The generator, and the max flow on its files.
+
+use crate::reference::Reference;
+use compare::comparison::{compare, Pairs};
+use compare::flow::most_served;
+use compare::generator::{generate, Kind};
+use compare::random::Random;
+use compare::tally::Tally;
+
+#[test]
+fn max_flow() {
+    assert_eq!(most_served(&[], &[]), 0);
+    assert_eq!(most_served(&[vec![]], &[5]), 0);
+    assert_eq!(most_served(&[vec![0]], &[0]), 0);
+    assert_eq!(most_served(&[vec![0], vec![0], vec![0]], &[2]), 2);
+    // Example (j): the second pane needs the glass that first fit gives to the first.
+    assert_eq!(most_served(&[vec![0, 1], vec![0]], &[1, 1]), 2);
+    // A chain in which all have to move for the last.
+    let mut chain: Vec<Vec<usize>> = (0..63).map(|at| vec![at, at + 1]).collect();
+    chain.push(vec![0]);
+    assert_eq!(most_served(&chain, &[1; 64]), 64);
+    chain.push(vec![7, 8]);
+    assert_eq!(most_served(&chain, &[1; 64]), 64);
+    chain.push(vec![0, 64]);
+    assert_eq!(most_served(&chain, &[1; 65]), 65);
+}
+
+#[test]
+fn a_file_is_given_by_seed_and_index() {
+    let file = |seed, index| generate(&mut Random::new(seed, index)).1;
+    assert_eq!(file(3, 5), file(3, 5));
+    assert_ne!(file(3, 5), file(3, 6));
+    assert_ne!(file(3, 5), file(4, 5));
+}
+
+/// On generated files a right library is found right, and all that can happen happens.
+#[test]
+fn every_case_is_generated() {
+    let mut tally = Tally::default();
+    let mut largest = 0;
+    for index in 0..2_000 {
+        let mut random = Random::new(1, index);
+        let (kind, file) = generate(&mut random);
+        let outcome = compare(&Reference, &file, Pairs::SampledIfMany, &mut random);
+        assert_eq!(outcome.finding_count, 0, "{index}: {:?}", outcome.findings);
+        tally.add(&outcome.tally);
+        tally.kinds[kind as usize] += 1;
+        largest = largest.max(outcome.text.len());
+    }
+    let few = 10;
+    let counts = [tally.accepted, tally.full_placings, tally.short_placings];
+    let counts = counts.into_iter().chain(tally.kinds);
+    let counts = counts.chain(tally.refused.into_iter().skip(1));
+    let counts: Vec<u64> = counts.chain(tally.verdicts).collect();
+    assert_eq!(counts.len(), 3 + Kind::ALL.len() + 8 + 5);
+    assert!(counts.iter().all(|&count| count >= few), "{tally}");
+    assert!(
+        largest > 2_000,
+        "no text of a large roof, at most {largest}"
+    );
+}

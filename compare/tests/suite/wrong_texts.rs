@@ -1,0 +1,86 @@
+//! Wrong texts, each of which has to be found by the rules that it breaks.
+
+use crate::jobs::{EXAMPLE_J, SHORT_JOB};
+use compare::reader::read;
+use compare::roof::Roof;
+use compare::rules::{GROUP, SHORT, STOCK};
+use compare::text::{check_text, FORM, PANES, REFUSAL, SHORT_LINE};
+
+/// The rules that a text breaks.
+fn broken_text(file: &[u8], text: &str) -> Vec<&'static str> {
+    let expected = read(file).map(Roof::of);
+    let expected = expected.as_ref().map_err(|refusal| *refusal);
+    let broken = check_text(expected, text.as_bytes());
+    broken.into_iter().map(|broken| broken.rule).collect()
+}
+
+#[test]
+fn texts() {
+    assert_eq!(broken_text(EXAMPLE_J, "1 7\n2 9\n2 2\n"), [""; 0]);
+    for text in [
+        "1 7\n2 9\n2 2",
+        "1 7\n2 9\n2 2\n\n",
+        "1 7\n\n2 9\n2 2\n",
+        "1  7\n2 9\n2 2\n",
+        "1 7 \n2 9\n2 2\n",
+        " 1 7\n2 9\n2 2\n",
+        "1\t7\n2 9\n2 2\n",
+        "1 7\r\n2 9\n2 2\n",
+        "01 7\n2 9\n2 2\n",
+        "1 07\n2 9\n2 2\n",
+        "1 +7\n2 9\n2 2\n",
+        "1 7 0\n2 9\n2 2\n",
+        "1\n2 9\n2 2\n",
+        "1 7\nshort 1\n2 9\n2 2\n",
+        "",
+        "\n",
+    ] {
+        assert_eq!(broken_text(EXAMPLE_J, text), [FORM], "{text:?}");
+    }
+    assert_eq!(broken_text(EXAMPLE_J, "2 9\n1 7\n2 2\n"), [PANES]);
+    assert_eq!(broken_text(EXAMPLE_J, "1 7\n2 2\n"), [PANES]);
+    assert_eq!(broken_text(EXAMPLE_J, "1 7\n2 9\n2 2\n2 2\n"), [PANES]);
+    assert_eq!(broken_text(EXAMPLE_J, "refused 1 0\n"), [FORM]);
+    assert_eq!(
+        broken_text(EXAMPLE_J, "1 7\n2 9\n2 2\nshort\n"),
+        [SHORT_LINE]
+    );
+    assert_eq!(broken_text(EXAMPLE_J, "1 9\n2 9\n2 2\n"), [STOCK]);
+}
+
+#[test]
+fn texts_of_a_short_job() {
+    let text = |end: &str| broken_text(SHORT_JOB, &format!("1 7\n3 9\n4 0\n2 3\n{end}"));
+    assert_eq!(text("short 3 4\n"), [""; 0]);
+    assert_eq!(text(""), [SHORT_LINE, GROUP]);
+    assert_eq!(text("short\n"), [GROUP]);
+    assert_eq!(text("short 4\n"), [SHORT]);
+    for end in [
+        "short 3 4",
+        "short  3 4\n",
+        "short 3 4 \n",
+        "short 3 04\n",
+        "short: 3 4\n",
+        "Short 3 4\n",
+        "short 3 4\nshort 3 4\n",
+    ] {
+        assert_eq!(text(end), [FORM], "{end:?}");
+    }
+}
+
+#[test]
+fn texts_of_a_refused_file() {
+    assert_eq!(broken_text(b"--", "refused 1 0\n"), [""; 0]);
+    for text in [
+        "refused 1 0",
+        "refused 1  0\n",
+        "refused 2 0\n",
+        "refused 1 2\n",
+        "refused 01 0\n",
+        "0 0\n",
+        "refused 1 0\n0 0\n",
+        "",
+    ] {
+        assert_eq!(broken_text(b"--", text), [REFUSAL], "{text:?}");
+    }
+}
