@@ -1,5 +1,6 @@
 -- The bench examples hold.
---     examples    (a) to (j)
+--     example-j    (j)
+--     examples     (a) to (j)
 use mathlib.Core.Path.{_≡_, sym, _∙_}
 use mathlib.Core.List.{[]}
 use native.Mathlib.Omega.{arith}
@@ -20,7 +21,7 @@ example-h c g =
     let all : g .placed ≡ 0 = g .placed-is in
     g .result ∙ rw (all, g .if-equal all .none)
 
-example-j : (c : Call) → Glazed glassesJ (stocksOf glassesJ) panesJ c → ExampleJ c
+pub example-j : (c : Call) → Glazed glassesJ (stocksOf glassesJ) panesJ c → ExampleJ c
 example-j c g =
     let all = g .all-placeable full-placing in
     record {

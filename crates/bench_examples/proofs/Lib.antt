@@ -2,3 +2,5 @@
 pub mod JobJ
 -- The bench examples, all of them.
 pub mod Examples
+-- What `canopy` prints of them.
+pub mod Texts
