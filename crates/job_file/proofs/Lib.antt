@@ -2,4 +2,5 @@ pub mod Trailers
 pub mod Files
 pub mod Accepted
 pub mod Fronts
+pub mod Refused
 pub mod Jobs

@@ -7,9 +7,9 @@ ghost use Rattle.job_line.specs.Bytes.{space};
 ghost use Rattle.job_line.specs.WrittenNumber.{digitCount, writtenDigits, writtenNumber};
 ghost use Rattle.report.specs.Steps.{Wrote};
 
-// Writes a space and a number; the place behind them.
+// Writes a space and a number of at most five digits; the place behind them.
 pub fn write_field(n: usize, text: &mut [u8], at: usize) -> usize
-    requires { ⌜ at + 6 ≤ length (now text) ⌝ }
+    requires { ⌜ (n ≤ 99999) × (at + 6 ≤ length (now text)) ⌝ }
     ensures { λ r. ⌜ Wrote (space ∷ writtenNumber n) at (now (text .entry)) (now (text .exit)) r ⌝ }
 {
     text[at] = b' ';
@@ -18,7 +18,7 @@ pub fn write_field(n: usize, text: &mut [u8], at: usize) -> usize
 
 // Writes a number of at most five digits; the place behind it.
 pub fn write_number(n: usize, text: &mut [u8], at: usize) -> usize
-    requires { ⌜ at + 5 ≤ length (now text) ⌝ }
+    requires { ⌜ (n ≤ 99999) × (at + 5 ≤ length (now text)) ⌝ }
     ensures { λ r. ⌜ Wrote (writtenNumber n) at (now (text .entry)) (now (text .exit)) r ⌝ }
 {
     write_digits(digit_count(n), n, text, at)

@@ -11,7 +11,7 @@ ghost use Rattle.report.specs.Steps.{Wrote, FourDigits, PaneIds};
 
 // Writes the text of a refusal to the front of a buffer; how many bytes it has.
 pub fn write_refusal(number: u32, offset: usize, text: &mut [u8]) -> usize
-    requires { ⌜ 20 ≤ length (now text) ⌝ }
+    requires { ⌜ (number ≤ 99999) × (offset ≤ 99999) × (20 ≤ length (now text)) ⌝ }
     ensures { λ r. ⌜ Wrote (refusalText number offset) 0 (now (text .entry)) (now (text .exit)) r ⌝ }
 {
     let first = write_word(b"refused", text, 0);

@@ -7,8 +7,10 @@ use native.Mathlib.Omega.{arith}
 use lib.ListN.{length, take, replicate}
 use lib.Seq.{length-take-le}
 use denote.Ref.{now}
-use Rattle.job_file.specs.File.{outcomeOf}
+use Rattle.job_part.specs.Cause.{numberOf}
+use Rattle.job_file.specs.File.{refused, outcomeOf}
 use Rattle.job_file.proofs.Jobs.{Job, job-read, refusal-read}
+use Rattle.job_file.proofs.Refused.{refused-within}
 use Rattle.job_file.proofs.Fronts.{few-panes}
 use Rattle.placing.specs.Promise.{Call, call, countsSay}
 use Rattle.report.specs.Text.{refusalText}
@@ -32,18 +34,32 @@ job k =
     let r = k .before .before .read-job in
     job-read (now (start k .args .file)) (r .result) (glasses k) (panes k) (r .ensures) (k .checked2 .given .1)
 
-refused : tie.Need-returns
-refused c =
+-- The refusal that was read, of a number and an offset that are written whole.
+is-refused :
+    (k : tie.After-checked) →
+    let r = k .before .before in
+    outcomeOf (now (r .before .before .args .file)) ≡ refused (numberOf (k .checked .given .0 .0)) (k .checked .given .0 .1 .0)
+is-refused k =
+    let r = k .before .before in
+    let v = k .checked .given in
+    refusal-read (now (r .before .before .args .file)) (r .read-job .result) (v .0 .0) (v .0 .1 .0) (r .read-job .ensures) (v .1)
+
+refusal-requires : tie.Need-write-refusal-requires
+refusal-requires c κs =
+    let n = c .before in
+    let k = n .before .before in
+    let small = refused-within _ _ _ (is-refused k) in
+    (omega (arith, small .0, n .number-of .ensures), omega (arith, small .1), omega arith)
+
+refusal : tie.Need-returns
+refusal c =
     let n = c .before .before in
     let k = n .before .before in
-    let r = k .before .before in
-    let a = r .before .before .args in
-    let v = k .checked .given in
-    let offset : ℕ = v .0 .1 .0 in
-    let is = refusal-read (now (a .file)) (r .read-job .result) (v .0 .0) offset (r .read-job .ensures) (v .1) in
+    let a = k .before .before .before .before .args in
+    let offset : ℕ = k .checked .given .0 .1 .0 in
     reported (outcomeOf (now (a .file))) (refusalText (n .number-of .result) offset) (now (a .text))
     (c .write-refusal .last .1 .1 .0) (c .write-refusal .result)
-    (rw (n .number-of .ensures) (printed-refusal (outcomeOf (now (a .file))) _ offset is)) (c .write-refusal .ensures)
+    (rw (n .number-of .ensures) (printed-refusal (outcomeOf (now (a .file))) _ offset (is-refused k))) (c .write-refusal .ensures)
 
 -- The lists that are lent for the placing, and what it left in them.
 abbrev zeros : List ℕ
@@ -103,7 +119,7 @@ report-spec =
     (λ c κs. search needs)
     (λ c. search needs)
     (λ c κs. search needs)
-    (λ c κs. search needs)
+    refusal-requires
     (λ c. search needs)
     (λ c. search needs)
     (λ c. search needs)
@@ -113,5 +129,5 @@ report-spec =
     (λ c. group-fits (c .before .before .before))
     (λ c. let p = c .before .before .before .before in sym (length-take-le _ (group p) (group-fits p)))
     placing-requires
-    refused
+    refusal
     placed)

@@ -67,7 +67,7 @@ write-fields-spec =
     (λ c. let l = c .before .before in record { fits = omega (arith, start l .pre .0 (l .loop .next) (omega arith)) })
     (λ c κs.
     let l = c .before .before .before in
-    omega (arith, l .loop .inv .1, l .loop .inv .2, start l .pre .1))
+    (omega (arith, start l .pre .0 (l .loop .next) (omega arith)), omega (arith, l .loop .inv .1, l .loop .inv .2, start l .pre .1)))
     (λ c. omega arith)
     again
     (λ c. c .before .loop .inv .1)

@@ -18,12 +18,12 @@ write-field-spec =
     (tie.spec
     (λ c. search needs)
     (λ c. search needs)
-    (λ c κs. let s = c .before .before in rw (length-set (now (s .args .text)) (s .args .at) space) (omega (arith, s .pre)))
+    (λ c κs. let s = c .before .before in (s .pre .0, rw (length-set (now (s .args .text)) (s .args .at) space) (omega (arith, s .pre .1))))
     (λ c. let a = c .before .before .before .before .before .args in c .before .before .write-number .kept .1 .0 ∙ length-set (now (a .text)) (a .at) space)
     (λ c.
     let w = c .before .before in
     let s = w .before .before .before in
     let a = s .args in
     wrote-then (a .at) (now (a .text)) (space ∷ []) (writtenNumber (a .n)) _ (w .write-number .last .1 .0) (a .at + 1)
-    (w .write-number .result) (omega (arith, s .pre)) (wrote-byte (a .at) (now (a .text)) space (omega (arith, s .pre)))
+    (w .write-number .result) (omega (arith, s .pre .1)) (wrote-byte (a .at) (now (a .text)) space (omega (arith, s .pre .1)))
     (w .write-number .ensures)))

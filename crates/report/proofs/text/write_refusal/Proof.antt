@@ -42,7 +42,7 @@ offset-kept :
 offset-kept c = c .write-field2 .kept .1 .0 ∙ number-kept (number c)
 
 room : (c : tie.After-write-field2) → c .write-field2 .result < length (c .write-field2 .last .1 .0)
-room c = omega (arith, offset-end c, offset-kept c, start (word (number c)) .pre)
+room c = omega (arith, offset-end c, offset-kept c, start (word (number c)) .pre .2)
 
 line : tie.Need-returns
 unfolding refusalText
@@ -60,7 +60,7 @@ line c =
     (w .write-word .ensures)
     (wrote-then (w .write-word .result) (w .write-word .last .1 .0) (space ∷ writtenNumber (a .number)) (space ∷ writtenNumber (a .offset))
     (n .write-field .last .1 .0) (o .write-field2 .last .1 .0) (n .write-field .result) (o .write-field2 .result)
-    (omega (arith, w .write-word .ensures .end-is, w .write-word .kept .1 .0, s .pre)) (n .write-field .ensures) (o .write-field2 .ensures)))
+    (omega (arith, w .write-word .ensures .end-is, w .write-word .kept .1 .0, s .pre .2)) (n .write-field .ensures) (o .write-field2 .ensures)))
 
 pub write-refusal-spec : {M : Type 1} → statement M
 write-refusal-spec =
@@ -69,7 +69,7 @@ write-refusal-spec =
     (λ c. search needs)
     (λ c κs. search needs)
     (λ c κs. search needs)
-    (λ c κs. let n = c .before .before .before in omega (arith, number-end n, number-kept n, start (word n) .pre))
+    (λ c κs. let n = c .before .before .before in (start (word n) .pre .1, omega (arith, number-end n, number-kept n, start (word n) .pre .2)))
     (λ c. room (c .before .before))
     (λ c. record { fits = omega (arith, offset-end (c .before .before)) })
     (λ c. let o = c .before .before in length-set (o .write-field2 .last .1 .0) (o .write-field2 .result) newline ∙ offset-kept o)
