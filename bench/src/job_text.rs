@@ -1,0 +1,59 @@
+//! Writing a job file: document 01, "The job file".
+#![forbid(unsafe_code)]
+
+use crate::dice::Dice;
+
+const NOTES: &str = "A roof and a rack, made for the benchmark.\n";
+
+/// The numbers of a glass line behind the id.
+#[derive(Clone, Copy)]
+pub struct GlassNumbers {
+    pub kind: usize,
+    pub thick: usize,
+    pub w: usize,
+    pub h: usize,
+    pub two: usize,
+    pub four: usize,
+    pub stock: usize,
+}
+
+/// The numbers of a pane line behind the id.
+#[derive(Clone, Copy)]
+pub struct PaneNumbers {
+    pub edges: usize,
+    pub angle: usize,
+    pub awning: usize,
+    pub top: usize,
+    pub w: usize,
+    pub h: usize,
+    pub down: usize,
+    pub up: usize,
+}
+
+/// A job file of these glasses and panes, under ids of four digits in no order.
+pub fn job_file(glasses: &[GlassNumbers], panes: &[PaneNumbers], dice: &mut Dice) -> Vec<u8> {
+    let mut text = String::from(NOTES);
+    let glass_offset = text.len();
+    for (id, g) in ids(dice).zip(glasses) {
+        text += &format!(
+            "G {id} {} {} {} {} {} {} {}\n",
+            g.kind, g.thick, g.w, g.h, g.two, g.four, g.stock
+        );
+    }
+    let pane_offset = text.len();
+    for (id, p) in ids(dice).zip(panes) {
+        text += &format!(
+            "P {id} {} {} {} {} {} {} {} {}\n",
+            p.edges, p.angle, p.awning, p.top, p.w, p.h, p.down, p.up
+        );
+    }
+    text += &format!("T {glass_offset:05} {pane_offset:05}\n");
+    text.into_bytes()
+}
+
+/// All ids of four digits, shuffled.
+fn ids(dice: &mut Dice) -> impl Iterator<Item = usize> {
+    let mut ids: Vec<usize> = (1_000..=9_999).collect();
+    dice.shuffle(&mut ids);
+    ids.into_iter()
+}

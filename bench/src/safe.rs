@@ -1,0 +1,54 @@
+//! The three calls in safe Rust, with the results of the C interface.
+#![forbid(unsafe_code)]
+
+use compare::clauses;
+use compare::reader::read;
+use compare::refusal::Refusal;
+
+use crate::place;
+use crate::results::{CheckResult, PlaceResult, VerdictResult};
+
+pub fn check(file: &[u8]) -> CheckResult {
+    match read(file) {
+        Ok(job) => CheckResult {
+            glasses: job.glasses().len(),
+            panes: job.panes().len(),
+            ..CheckResult::default()
+        },
+        Err(Refusal { number, offset }) => CheckResult {
+            number,
+            offset,
+            ..CheckResult::default()
+        },
+    }
+}
+
+pub fn verdict(file: &[u8], pane: u32, glass: u32) -> VerdictResult {
+    match clauses::verdict(file, pane, glass) {
+        Ok(clause) => VerdictResult {
+            clause,
+            ..VerdictResult::default()
+        },
+        Err(Refusal { number, offset }) => VerdictResult {
+            number,
+            offset,
+            ..VerdictResult::default()
+        },
+    }
+}
+
+pub fn place(file: &[u8], answers: &mut [u32], group: &mut [u32]) -> PlaceResult {
+    match place::place(file, answers, group) {
+        Ok(counts) => PlaceResult {
+            wanted: counts.wanted,
+            placed: counts.placed,
+            group: counts.group,
+            ..PlaceResult::default()
+        },
+        Err(Refusal { number, offset }) => PlaceResult {
+            number,
+            offset,
+            ..PlaceResult::default()
+        },
+    }
+}

@@ -1,0 +1,179 @@
+//! The jobs that are measured: four hard shapes, each of any size and each by a fixed seed.
+//!
+//! The lines have the numbers of real roofs: ids of four digits, span constants of five, heights,
+//! winds and slopes that differ from line to line.
+#![forbid(unsafe_code)]
+
+use crate::dice::Dice;
+use crate::job_text::{job_file, GlassNumbers, PaneNumbers};
+
+#[derive(Clone, Copy, Debug, PartialEq, Eq)]
+pub enum Shape {
+    /// Every glass passes for every pane, and there is just a sheet for each pane; or one of each
+    /// glass, where there are fewer panes.
+    AllSuitAll,
+    /// A chain of as many links as there are glasses, or panes, where those are fewer: each of the
+    /// last panes is served by moving one pane of every link.
+    Chain,
+    /// Each pane suits an interval of the glasses by size, and a sheet for each pane is all there
+    /// is. The glasses stand in no order in the file.
+    RandomIntervals,
+    /// A roof and a rack as a glazier has them, by all four clauses, with eight panes to a sheet.
+    HeavyShortage,
+}
+
+impl Shape {
+    pub const ALL: [Shape; 4] = [
+        Shape::AllSuitAll,
+        Shape::Chain,
+        Shape::RandomIntervals,
+        Shape::HeavyShortage,
+    ];
+
+    pub fn name(self) -> &'static str {
+        match self {
+            Shape::AllSuitAll => "all suit all",
+            Shape::Chain => "chain",
+            Shape::RandomIntervals => "random intervals",
+            Shape::HeavyShortage => "heavy shortage",
+        }
+    }
+
+    /// The job file of this shape with so many glasses and panes.
+    pub fn file(self, glass_count: usize, pane_count: usize) -> Vec<u8> {
+        let mut dice = Dice::new(self as u64 + 1);
+        let (glasses, panes) = match self {
+            Shape::AllSuitAll => all_suit_all(glass_count, pane_count, &mut dice),
+            Shape::Chain => chain(glass_count, pane_count, &mut dice),
+            Shape::RandomIntervals => random_intervals(glass_count, pane_count, &mut dice),
+            Shape::HeavyShortage => heavy_shortage(glass_count, pane_count, &mut dice),
+        };
+        job_file(&glasses, &panes, &mut dice)
+    }
+}
+
+type Lines = (Vec<GlassNumbers>, Vec<PaneNumbers>);
+
+fn all_suit_all(glass_count: usize, pane_count: usize, dice: &mut Dice) -> Lines {
+    let stock = pane_count.div_ceil(glass_count);
+    let glasses = (0..glass_count).map(|_| sound_glass(2_400, 3_600, stock, dice));
+    let glasses = glasses.collect();
+    let panes = (0..pane_count).map(|_| {
+        let (w, h) = (dice.draw(600..=1_600), dice.draw(1_000..=1_800));
+        fair_pane(w, h, dice)
+    });
+    (glasses, panes.collect())
+}
+
+/// The panes of link n suit the glasses n and n + 1 and take n at first; those of the last link
+/// suit the glass 0 alone. Where there are fewer panes than glasses, every pane is a link.
+fn chain(glass_count: usize, pane_count: usize, dice: &mut Dice) -> Lines {
+    let links = glass_count.min(pane_count);
+    let panes_a_link = pane_count / links;
+    assert_eq!(panes_a_link * links, pane_count, "the links are even");
+    let glasses = (0..glass_count).map(|at| sheet(at, panes_a_link, dice));
+    let glasses = glasses.collect();
+    let panes = (0..pane_count).map(|pane| match pane / panes_a_link {
+        link if link == links - 1 => interval(0, 0, dice),
+        link => interval(link, link + 1, dice),
+    });
+    (glasses, panes.collect())
+}
+
+/// Each pane's interval is laid about a sheet that is there for it.
+fn random_intervals(glass_count: usize, pane_count: usize, dice: &mut Dice) -> Lines {
+    let reach = glass_count / 8;
+    let last = glass_count - 1;
+    let mut stocks = vec![0; glass_count];
+    let mut panes = Vec::new();
+    for _ in 0..pane_count {
+        let at = dice.draw(0..=last);
+        stocks[at] += 1;
+        let from = at.saturating_sub(dice.draw(0..=reach));
+        let to = last.min(at + dice.draw(0..=reach));
+        panes.push(interval(from, to, dice));
+    }
+    let sheets = stocks.iter().enumerate();
+    let mut glasses: Vec<_> = sheets.map(|(at, &stock)| sheet(at, stock, dice)).collect();
+    dice.shuffle(&mut glasses);
+    (glasses, panes)
+}
+
+fn heavy_shortage(glass_count: usize, pane_count: usize, dice: &mut Dice) -> Lines {
+    let mut glasses: Vec<_> = (0..glass_count).map(|_| any_glass(dice)).collect();
+    for _ in 0..pane_count.div_ceil(8) {
+        glasses[dice.draw(0..=glass_count - 1)].stock += 1;
+    }
+    let panes = (0..pane_count).map(|_| any_pane(dice));
+    (glasses, panes.collect())
+}
+
+/// The sheets at 0, 1, .. grow wider and less high, so that a pane can be made for any interval of
+/// them. None is as wide as any is high: no pane fits one turned.
+fn sheet(at: usize, stock: usize, dice: &mut Dice) -> GlassNumbers {
+    sound_glass(1_000 + 10 * at, 3_000 - 10 * at, stock, dice)
+}
+
+/// A pane that lies within the sheets at `from` to `to` and within no others.
+fn interval(from: usize, to: usize, dice: &mut Dice) -> PaneNumbers {
+    fair_pane(1_000 + 10 * from, 3_000 - 10 * to, dice)
+}
+
+/// A glass that passes for every fair pane that lies within it.
+fn sound_glass(w: usize, h: usize, stock: usize, dice: &mut Dice) -> GlassNumbers {
+    GlassNumbers {
+        kind: dice.draw(1..=3),
+        thick: dice.pick(&[10, 12]),
+        w,
+        h,
+        two: dice.draw(27_000..=39_999),
+        four: dice.draw(27_000..=39_999),
+        stock,
+    }
+}
+
+/// A pane on four edges, steep enough to bear 0.5 kN only, in moderate wind. With a shorter side up
+/// to 1,700 mm it is within the span of every sound glass.
+fn fair_pane(w: usize, h: usize, dice: &mut Dice) -> PaneNumbers {
+    PaneNumbers {
+        edges: 4,
+        angle: dice.draw(30..=60),
+        awning: 0,
+        top: dice.draw(2_400..=12_000),
+        w,
+        h,
+        down: dice.draw(10..=140),
+        up: dice.draw(10..=240),
+    }
+}
+
+/// Any glass of a rack, with no sheet yet.
+fn any_glass(dice: &mut Dice) -> GlassNumbers {
+    GlassNumbers {
+        kind: dice.draw(1..=4),
+        thick: dice.pick(&[6, 8, 10, 12]),
+        w: dice.pick(&[1_200, 1_800, 2_400]),
+        h: dice.pick(&[1_800, 2_400, 3_600]),
+        two: dice.draw(9_000..=21_000),
+        four: dice.draw(10_000..=24_000),
+        stock: 0,
+    }
+}
+
+/// Any pane of a roof.
+fn any_pane(dice: &mut Dice) -> PaneNumbers {
+    let w = dice.draw(400..=1_300);
+    PaneNumbers {
+        edges: dice.pick(&[2, 4, 4, 4]),
+        angle: dice.draw(0..=74),
+        awning: usize::from(dice.draw(1..=20) == 1),
+        top: dice.draw(2_000..=12_000),
+        w,
+        h: dice.draw(w..=2 * w),
+        down: dice.draw(0..=150),
+        up: dice.draw(0..=250),
+    }
+}
+
+#[cfg(test)]
+mod tests;
