@@ -1,13 +1,10 @@
--- A set of glasses: the bits of a word of 64, "one for each glass in file order".
-use Prim.Native.Nat.{ℕ, _/_, _%_, _^_, _<_}
+-- A set of glasses: the bits of a word of 64, "one for each glass in file order". `has set g` says whether the glass of a number,
+-- counted from 0, is in a set: whether its bit is set.
+use Prim.Native.Nat.{ℕ, _<_}
 use mathlib.Core.Path.{_≡_}
 use mathlib.Core.Bool.{Bool, true, not, _||_}
-use lib.Dec.{eqb}
 use Rattle.ranges.specs.Ranges.{countTo, allTo}
-
--- Whether the glass of a number, counted from 0, is in a set: whether its bit is set.
-unfoldable pub has : ℕ → ℕ → Bool
-has set g = eqb (set / 2 ^ g % 2) 1
+unfoldable pub use Rattle.bits.specs.Bit.{has}
 
 -- The glasses of a set are those that pass a test.
 abbrev pub Members : ℕ → (ℕ → Bool) → Type 0

@@ -5,7 +5,8 @@ use job_line::LineEnd;
 use job_line::read_line;
 use job_part::Cause;
 use job_part::PartEnd;
-use job_part::is_among;
+use job_part::is_seen;
+use job_part::mark;
 ghost use mathlib.Core.Path.{_≡_};
 ghost use mathlib.Core.List.{List};
 ghost use Prim.Native.Nat.{ℕ, _+_, _≤_};
@@ -15,6 +16,7 @@ ghost use Rattle.job_part.specs.Part.{judged, judgedEntry, partLines};
 ghost use Rattle.job_glass.specs.GlassLine.{blankGlass};
 ghost use Rattle.job_glass.specs.Steps.{GlassRead};
 ghost use Rattle.job_part.specs.Arrays.{PartRead};
+ghost use Rattle.job_part.specs.IdSets.{IdSet};
 
 // A glass line and the position behind it, or what is wrong with it.
 pub enum GlassLine {
@@ -40,7 +42,7 @@ pub fn read_glasses(part: &[u8], offset: usize) -> GlassPart
     ensures { λ r. ⌜ PartRead 64 blankGlass (partLines glassForm (offset + length (now (part .entry))) (now (part .entry))) (r .glasses) (r .end) ⌝ }
 {
     let mut glasses = [NO_GLASS; 64];
-    let mut ids = [0u32; 64];
+    let mut seen = [0u64; 157];
     let mut n = 0;
     let mut at = 0;
     while at < part.len() {
@@ -50,7 +52,7 @@ pub fn read_glasses(part: &[u8], offset: usize) -> GlassPart
                 glasses,
             };
         }
-        match read_glass(part, at, &ids, n) {
+        match read_glass(part, at, &seen) {
             GlassLine::FaultyGlass(cause) => {
                 return GlassPart {
                     end: PartEnd::Stopped(cause, offset + at),
@@ -59,7 +61,7 @@ pub fn read_glasses(part: &[u8], offset: usize) -> GlassPart
             }
             GlassLine::TakenGlass(glass, next) => {
                 glasses[n] = glass;
-                ids[n] = glass.id;
+                mark(&mut seen, glass.id);
                 n += 1;
                 at = next;
             }
@@ -71,29 +73,23 @@ pub fn read_glasses(part: &[u8], offset: usize) -> GlassPart
     }
 }
 
-// The glass line at a position, behind `count` lines with these ids.
-fn read_glass(part: &[u8], at: usize, ids: &[u32], count: usize) -> GlassLine
-    requires { ⌜ count ≤ length (now ids) ⌝ }
-    ensures { λ r. ⌜ GlassRead (now (part .entry)) (judged glassForm (take count (now (ids .entry))) (drop at (now (part .entry)))) r ⌝ }
+// The glass line at a position, behind lines whose ids are in a set.
+fn read_glass(part: &[u8], at: usize, seen: &[u64; 157]) -> GlassLine
+    ensures { λ r. ⌜ ((ids : List ℕ) → IdSet (now (seen .entry)) ids → GlassRead (now (part .entry)) (judged glassForm ids (drop at (now (part .entry)))) r) ⌝ }
 {
-    let line = read_line(part, at, b'G', 8);
-    let end = line.end;
-    match end {
+    let mut numbers = [0u32; 9];
+    match read_line(part, at, b'G', 8, &mut numbers) {
         LineEnd::NotALine => GlassLine::FaultyGlass(Cause::LineForm),
-        LineEnd::Next(next) => {
-            let numbers = line.numbers;
-            judge_glass(glass_of(numbers), next, ids, count)
-        }
+        LineEnd::Next(next) => judge_glass(glass_of(numbers), next, seen),
     }
 }
 
 // A glass line that ends at `next`, judged by the causes 5 and 6.
-fn judge_glass(glass: Glass, next: usize, ids: &[u32], count: usize) -> GlassLine
-    requires { ⌜ count ≤ length (now ids) ⌝ }
-    ensures { λ r. ⌜ ((bytes : List ℕ) → next ≤ length bytes → GlassRead bytes (judgedEntry glassForm (take count (now (ids .entry))) glass (drop next bytes)) r) ⌝ }
+fn judge_glass(glass: Glass, next: usize, seen: &[u64; 157]) -> GlassLine
+    ensures { λ r. ⌜ ((ids : List ℕ) → IdSet (now (seen .entry)) ids → (bytes : List ℕ) → next ≤ length bytes → GlassRead bytes (judgedEntry glassForm ids glass (drop next bytes)) r) ⌝ }
 {
     if is_allowed(glass) {
-        if is_among(glass.id, ids, count) {
+        if is_seen(seen, glass.id) {
             GlassLine::FaultyGlass(Cause::RepeatedId)
         } else {
             GlassLine::TakenGlass(glass, next)

@@ -18,9 +18,3 @@ pub enum LineEnd {
     Next(usize),
     NotALine,
 }
-
-// A line's numbers, at the front of an array.
-pub struct LineAt {
-    pub end: LineEnd,
-    pub numbers: [u32; 9],
-}

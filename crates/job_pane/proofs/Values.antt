@@ -1,5 +1,7 @@
--- A pane whose numbers pass the test, and which is not too long, has them within their bounds.
-use Prim.Native.Nat.{_*_, min, max}
+-- A pane whose numbers pass the test has them within their bounds.
+--     allowed-id      its id
+--     allowed-pane    all of them, where it is not too long
+use Prim.Native.Nat.{_*_, _≤_, min, max}
 use mathlib.Core.Bool.{not}
 use native.Mathlib.Omega.{arith}
 use lib.Dec.{T, eqb, nltb→le, eqb→eq}
@@ -7,6 +9,9 @@ use Rattle.job_part.proofs.Tests.{and-iff, leb-iff, one-of}
 use Rattle.job_pane.specs.PaneLine.{allowedPane, tooLongPane}
 use Rattle.job_pane.specs.Values.{PaneValues}
 use Rattle.job_pane.specs.declared.Pane.{Pane}
+
+pub allowed-id : (p : Pane) → T (allowedPane p) → p .id ≤ 9999
+allowed-id p h = let k = simp (and-iff, leb-iff) at h in omega arith
 
 pub allowed-pane : (p : Pane) → T (allowedPane p) → T (not (tooLongPane p)) → PaneValues p
 allowed-pane p h fair =

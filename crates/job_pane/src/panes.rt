@@ -7,7 +7,8 @@ use job_line::LineEnd;
 use job_line::read_line;
 use job_part::Cause;
 use job_part::PartEnd;
-use job_part::is_among;
+use job_part::is_seen;
+use job_part::mark;
 ghost use mathlib.Core.Path.{_≡_};
 ghost use mathlib.Core.List.{List};
 ghost use Prim.Native.Nat.{ℕ, _+_, _≤_};
@@ -17,6 +18,7 @@ ghost use Rattle.job_part.specs.Part.{judged, judgedEntry, partLines};
 ghost use Rattle.job_pane.specs.PaneLine.{blankPane};
 ghost use Rattle.job_pane.specs.Steps.{PaneRead};
 ghost use Rattle.job_part.specs.Arrays.{PartRead};
+ghost use Rattle.job_part.specs.IdSets.{IdSet};
 
 // A pane line and the position behind it, or what is wrong with it.
 pub enum PaneLine {
@@ -43,7 +45,7 @@ pub fn read_panes(part: &[u8], offset: usize) -> PanePart
     ensures { λ r. ⌜ PartRead 256 blankPane (partLines paneForm (offset + length (now (part .entry))) (now (part .entry))) (r .panes) (r .end) ⌝ }
 {
     let mut panes = [NO_PANE; 256];
-    let mut ids = [0u32; 256];
+    let mut seen = [0u64; 157];
     let mut n = 0;
     let mut at = 0;
     while at < part.len() {
@@ -53,7 +55,7 @@ pub fn read_panes(part: &[u8], offset: usize) -> PanePart
                 panes,
             };
         }
-        match read_pane(part, at, &ids, n) {
+        match read_pane(part, at, &seen) {
             PaneLine::FaultyPane(cause) => {
                 return PanePart {
                     end: PartEnd::Stopped(cause, offset + at),
@@ -62,7 +64,7 @@ pub fn read_panes(part: &[u8], offset: usize) -> PanePart
             }
             PaneLine::TakenPane(pane, next) => {
                 panes[n] = pane;
-                ids[n] = pane.id;
+                mark(&mut seen, pane.id);
                 n += 1;
                 at = next;
             }
@@ -74,29 +76,23 @@ pub fn read_panes(part: &[u8], offset: usize) -> PanePart
     }
 }
 
-// The pane line at a position, behind `count` lines with these ids.
-fn read_pane(part: &[u8], at: usize, ids: &[u32], count: usize) -> PaneLine
-    requires { ⌜ count ≤ length (now ids) ⌝ }
-    ensures { λ r. ⌜ PaneRead (now (part .entry)) (judged paneForm (take count (now (ids .entry))) (drop at (now (part .entry)))) r ⌝ }
+// The pane line at a position, behind lines whose ids are in a set.
+fn read_pane(part: &[u8], at: usize, seen: &[u64; 157]) -> PaneLine
+    ensures { λ r. ⌜ ((ids : List ℕ) → IdSet (now (seen .entry)) ids → PaneRead (now (part .entry)) (judged paneForm ids (drop at (now (part .entry)))) r) ⌝ }
 {
-    let line = read_line(part, at, b'P', 9);
-    let end = line.end;
-    match end {
+    let mut numbers = [0u32; 9];
+    match read_line(part, at, b'P', 9, &mut numbers) {
         LineEnd::NotALine => PaneLine::FaultyPane(Cause::LineForm),
-        LineEnd::Next(next) => {
-            let numbers = line.numbers;
-            judge_pane(pane_of(numbers), next, ids, count)
-        }
+        LineEnd::Next(next) => judge_pane(pane_of(numbers), next, seen),
     }
 }
 
 // A pane line that ends at `next`, judged by the causes 5, 6 and 7.
-fn judge_pane(pane: Pane, next: usize, ids: &[u32], count: usize) -> PaneLine
-    requires { ⌜ count ≤ length (now ids) ⌝ }
-    ensures { λ r. ⌜ ((bytes : List ℕ) → next ≤ length bytes → PaneRead bytes (judgedEntry paneForm (take count (now (ids .entry))) pane (drop next bytes)) r) ⌝ }
+fn judge_pane(pane: Pane, next: usize, seen: &[u64; 157]) -> PaneLine
+    ensures { λ r. ⌜ ((ids : List ℕ) → IdSet (now (seen .entry)) ids → (bytes : List ℕ) → next ≤ length bytes → PaneRead bytes (judgedEntry paneForm ids pane (drop next bytes)) r) ⌝ }
 {
     if is_allowed(pane) {
-        if is_among(pane.id, ids, count) {
+        if is_seen(seen, pane.id) {
             PaneLine::FaultyPane(Cause::RepeatedId)
         } else if is_too_long(pane) {
             PaneLine::FaultyPane(Cause::TooLong)

@@ -1,4 +1,5 @@
 pub mod Members
+pub mod IdSets
 pub mod Judging
 pub mod Parts
 pub mod Lists

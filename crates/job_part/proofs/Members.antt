@@ -1,17 +1,14 @@
 -- Which ids stand among the first of a list.
 --     among-append   among two lists: among the one or the other
---     among-next     not among the first, and not the next: not among one more
 --     among-found    one of the first: among them
-use Prim.Native.Nat.{ℕ, zero, suc, _+_, _≤_, _<_}
+use Prim.Native.Nat.{ℕ, zero, suc, _≤_, _<_}
 use mathlib.Core.Path.{_≡_, refl, ap, sym, _∙_}
-use mathlib.Core.Bool.{Bool, true, false, _||_, or-assoc, or-true}
+use mathlib.Core.Bool.{Bool, true, _||_, or-assoc, or-true}
 use mathlib.Core.List.{List, [], _∷_, _++_}
-use native.Mathlib.Numerals.{add-one}
 use native.Mathlib.Omega.{arith}
 use lib.Dec.{eqb}
 use lib.ListN.{length, getD, take}
-use lib.Seq.{take-suc}
-use borrow.Author.Tests.{eq-eqb, ne-eqb}
+use borrow.Author.Tests.{eq-eqb}
 use Rattle.job_part.specs.Part.{among}
 
 pub among-append : (n : ℕ) (xs ys : List ℕ) → among n (xs ++ ys) ≡ among n xs || among n ys
@@ -19,11 +16,6 @@ unfolding among
 among-append n [] ys = refl
 among-append n (x ∷ xs) ys =
     ap (λ (b : Bool). eqb x n || b) (among-append n xs ys) ∙ sym (or-assoc (eqb x n) (among n xs) (among n ys))
-
-pub among-next : (n : ℕ) (xs : List ℕ) (i : ℕ) → i < length xs → among n (take i xs) ≡ false → (getD xs i 0 ≡ n → ⊥) → among n (take (i + 1) xs) ≡ false
-unfolding among
-among-next n xs i h none other =
-    rw (add-one, take-suc xs i 0, among-append, none, ne-eqb (getD xs i 0) n other)
 
 pub among-found : (n : ℕ) (xs : List ℕ) (i count : ℕ) → i < count → count ≤ length xs → getD xs i 0 ≡ n → among n (take count xs) ≡ true
 unfolding among

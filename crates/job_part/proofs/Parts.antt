@@ -1,7 +1,7 @@
 -- The lines of a part, one after the other, for either form.
 --     lines-end, lines-many, lines-faulty, lines-taken   what the definition gives, by what comes next
 --     Progress     the rest of the part is read from `at` on, behind the first n entries of an array, whose other entries are
---                  blank; the ids array has the entries' ids
+--                  blank; the set of ids has the entries' ids
 --     progress-begin, progress-taken                     where reading begins, and one line more
 --     progress-many, progress-faulty, progress-end       how it ends
 use Prim.Native.Nat.{ℕ, zero, suc, _+_, _-_, _≤_, _<_}
@@ -12,6 +12,7 @@ use native.Mathlib.Omega.{arith}
 use lib.ListN.{length, take, drop, set, replicate, length-drop, length-set, length-replicate}
 use lib.Seq.{take-suc-set, drop-set-lt, drop-drop}
 use Rattle.job_part.specs.Arrays.{PartWhole}
+use Rattle.job_part.specs.IdSets.{IdSet}
 use Rattle.job_part.specs.Part.{Form, taken, faulty, judged, whole, stopped, lines, partLines}
 
 module _ {A : Type 0} (form : Form A) (end : ℕ) where
@@ -38,31 +39,29 @@ module _ {A : Type 0} (form : Form A) (end : ℕ) where
     lines-taken [] x rest h e = absurd (omega arith)
     lines-taken (b ∷ bytes) x rest h e = rw (e, lines)
 
-pub record Progress {A : Type 0} (form : Form A) (blank : A) (end : ℕ) (part : List ℕ) (xs : List A) (ids : List ℕ) (n at : ℕ) : Type 0 where
+pub record Progress {A : Type 0} (form : Form A) (blank : A) (end : ℕ) (part : List ℕ) (xs : List A) (seen : List ℕ) (n at : ℕ) : Type 0 where
   pub rest : lines form end (form .most - n) (take n xs) (drop at part) ≡ partLines form end part
   pub few : n ≤ form .most
   pub room : length xs ≡ form .most
-  pub id-room : length ids ≡ form .most
-  pub same-ids : map (form .id) (take n xs) ≡ take n ids
+  pub ids : IdSet seen (map (form .id) (take n xs))
   pub blanks : drop n xs ≡ replicate (form .most - n) blank
   pub inside : at ≤ length part
 
 module _ {A : Type 0} (form : Form A) (blank : A) (part : List ℕ) where
-  pub progress-begin : (end : ℕ) (xs : List A) (ids : List ℕ) → xs ≡ replicate (form .most) blank → length ids ≡ form .most → Progress form blank end part xs ids 0 0
+  pub progress-begin : (end : ℕ) (xs : List A) (seen : List ℕ) → xs ≡ replicate (form .most) blank → IdSet seen [] → Progress form blank end part xs seen 0 0
   unfolding partLines
-  progress-begin end xs ids empty id-room =
+  progress-begin end xs seen empty none =
       let all : form .most - 0 ≡ form .most = omega arith in
       record {
         rest = rw all;
         few = omega arith;
         room = ap length empty ∙ length-replicate (form .most) blank;
-        id-room = id-room;
-        same-ids = refl;
+        ids = none;
         blanks = rw all empty;
         inside = omega arith;
       }
 
-  module _ (offset : ℕ) (xs : List A) (ids : List ℕ) (n at : ℕ) (progress : Progress form blank (offset + length part) part xs ids n at) where
+  module _ (offset : ℕ) (xs : List A) (seen : List ℕ) (n at : ℕ) (progress : Progress form blank (offset + length part) part xs seen n at) where
     here : at < length part → 0 < length (drop at part)
     here more = simp length-drop (omega arith)
 
@@ -88,24 +87,22 @@ module _ {A : Type 0} (form : Form A) (blank : A) (part : List ℕ) where
         let none : form .most - n ≡ 0 = omega arith in
         sym (progress .rest) ∙ rw none (lines-many form (offset + length part) (take n xs) (drop at part) (here more)) ∙ ap (stopped 8) (line-offset more)
 
-    pub progress-faulty : (cause : ℕ) → at < length part → n < form .most → judged form (take n ids) (drop at part) ≡ faulty cause → partLines form (offset + length part) part ≡ stopped cause (offset + at)
+    pub progress-faulty : (cause : ℕ) → at < length part → n < form .most → judged form (map (form .id) (take n xs)) (drop at part) ≡ faulty cause → partLines form (offset + length part) part ≡ stopped cause (offset + at)
     progress-faulty cause more room fault =
         sym (progress .rest)
-        ∙ rw (one-left room) (lines-faulty form (offset + length part) (form .most - (n + 1)) (take n xs) (drop at part) cause (here more) (rw (progress .same-ids) fault))
+        ∙ rw (one-left room) (lines-faulty form (offset + length part) (form .most - (n + 1)) (take n xs) (drop at part) cause (here more) fault)
         ∙ ap (stopped cause) (line-offset more)
 
-    pub progress-taken : (x : A) (to : ℕ) → at < length part → n < form .most → judged form (take n ids) (drop at part) ≡ taken x (drop to part) → to ≤ length part → Progress form blank (offset + length part) part (set xs n x) (set ids n (form .id x)) (n + 1) to
-    progress-taken x to more room line inside =
+    pub progress-taken : (x : A) (to : ℕ) (marked : List ℕ) → at < length part → n < form .most → judged form (map (form .id) (take n xs)) (drop at part) ≡ taken x (drop to part) → to ≤ length part → IdSet marked (map (form .id) (take n xs) ++ (form .id x ∷ [])) → Progress form blank (offset + length part) part (set xs n x) marked (n + 1) to
+    progress-taken x to marked more room line inside ids =
         let longer : take (n + 1) (set xs n x) ≡ take n xs ++ (x ∷ []) = rw add-one (take-suc-set xs n x (rw (progress .room) room)) in
-        let more-ids : take (n + 1) (set ids n (form .id x)) ≡ take n ids ++ (form .id x ∷ []) = rw add-one (take-suc-set ids n (form .id x) (rw (progress .id-room) room)) in
         record {
           rest = rw longer
-              (sym (lines-taken form (offset + length part) (form .most - (n + 1)) (take n xs) (drop at part) x (drop to part) (here more) (rw (progress .same-ids) line))
+              (sym (lines-taken form (offset + length part) (form .most - (n + 1)) (take n xs) (drop at part) x (drop to part) (here more) line)
               ∙ rw (← one-left room) (progress .rest));
           few = omega arith;
           room = length-set xs n x ∙ progress .room;
-          id-room = length-set ids n (form .id x) ∙ progress .id-room;
-          same-ids = rw (longer, map-append (form .id) (take n xs) (x ∷ []), progress .same-ids) (sym more-ids);
+          ids = rw (longer, map-append (form .id) (take n xs) (x ∷ [])) ids;
           blanks = drop-set-lt (n + 1) xs n x (omega arith) ∙ sym (drop-drop 1 n xs) ∙ ap (drop 1) (progress .blanks) ∙ rw (one-left room);
           inside = inside;
         }

@@ -5,3 +5,5 @@ pub mod Cause
 pub mod Rules
 -- What reading a part promises.
 pub mod Arrays
+-- The ids of the lines read so far, as bits.
+pub mod IdSets

@@ -1,7 +1,8 @@
 // What the glass part and the pane part of a job file have in common: document 01, "The job file" and "What each cause gives".
 mod ids;
 
-pub use ids::is_among;
+pub use ids::is_seen;
+pub use ids::mark;
 ghost use mathlib.Core.Path.{_≡_};
 ghost use Rattle.job_part.specs.Cause.{numberOf};
 

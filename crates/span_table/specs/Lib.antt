@@ -2,3 +2,5 @@
 pub mod Spans
 -- What holds of the whole table.
 pub mod SpanRule
+-- What the functions ask.
+pub mod Steps

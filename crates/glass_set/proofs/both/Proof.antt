@@ -1,5 +1,5 @@
 -- `both` meets its contract: a bit of `&` is set where both are.
-use Rattle.glass_set.proofs.Members.{has-and}
+use Rattle.bits.proofs.Bits.{has-and}
 use Rattle.glass_set.proofs.both.Statement.{statement}
 use Rattle.glass_set.proofs.both.Tie as tie
 

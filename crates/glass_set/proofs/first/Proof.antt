@@ -2,7 +2,7 @@
 use borrow.Author.Needs.{needs}
 use native.Mathlib.Omega.{arith}
 use lib.Count.{trailing-le}
-use Rattle.glass_set.proofs.Members.{first-has}
+use Rattle.bits.proofs.Bits.{first-has}
 use Rattle.glass_set.proofs.first.Statement.{statement}
 use Rattle.glass_set.proofs.first.Tie as tie
 

@@ -1,6 +1,6 @@
 -- `minus` meets its contract: a bit of `!` is set where the other's is not.
 use borrow.Author.Needs.{needs}
-use Rattle.glass_set.proofs.Members.{has-minus}
+use Rattle.bits.proofs.Bits.{has-minus}
 use Rattle.glass_set.proofs.minus.Statement.{statement}
 use Rattle.glass_set.proofs.minus.Tie as tie
 

@@ -1,7 +1,7 @@
 -- `with` meets its contract: a bit of `|` is set where one of them is.
 use borrow.Author.Needs.{needs}
 use lib.Bits.{or-comm}
-use Rattle.glass_set.proofs.Members.{has-or, has-one}
+use Rattle.bits.proofs.Bits.{has-or, has-one}
 use Rattle.glass_set.proofs.with.Statement.{statement}
 use Rattle.glass_set.proofs.with.Tie as tie
 

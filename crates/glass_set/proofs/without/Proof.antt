@@ -2,7 +2,7 @@
 use Prim.Native.Nat.{_*_, _%_, _^_}
 use borrow.Author.Needs.{needs}
 use native.Mathlib.Omega.{arith}
-use Rattle.glass_set.proofs.Members.{has-minus, has-one}
+use Rattle.bits.proofs.Bits.{has-minus, has-one}
 use Rattle.glass_set.proofs.without.Statement.{statement}
 use Rattle.glass_set.proofs.without.Tie as tie
 

@@ -1,6 +1,5 @@
 use borrow.Author.Needs.{needs}
 use native.Mathlib.Omega.{arith}
-use Rattle.span_table.specs.Spans.{spans}
 use Rattle.span_table.proofs.Rows.{row-high}
 use Rattle.span_table.proofs.max_span.Statement.{statement}
 use Rattle.span_table.proofs.max_span.Tie as tie
@@ -9,10 +8,6 @@ within : tie.Need-index-1-result
 within c =
     let a = c .before .args in
     rw (c .row .ensures) (row-high (a .kind) (a .load) (a .thick))
-
-returns : tie.Need-returns
-unfolding spans
-returns c = rw (c .before .row .ensures)
 
 pub max-span-spec : {M : Type 1} → statement M
 max-span-spec =
@@ -23,4 +18,4 @@ max-span-spec =
     (λ c. search needs)
     within
     (λ c. search needs)
-    returns)
+    (λ c. rw (c .before .before .pre .0, c .before .row .ensures)))

@@ -32,7 +32,7 @@ point-passes :
     let s = start (past-kind (past-size c)) in pointLoadFails (s .args .loaded .pane) (s .args .glass) ≡ false
 point-passes c =
     let s = start (past-kind (past-size c)) in
-    wide-is (s .pre .0) (s .args .glass) ∙ sym (c .before .is-too-wide .ensures) ∙ c .if3 .left
+    wide-is (s .pre .1) (s .args .glass) ∙ sym (c .before .is-too-wide .ensures) ∙ c .if3 .left
 
 kind : tie.Need-returns
 kind c = sym (fails-1 _ _ (sym (c .before .is-barred .ensures) ∙ c .if1 .taken))
@@ -41,7 +41,7 @@ size : tie.Need-returns-2
 size c = sym (fails-2 _ _ (kind-passes (c .before .before)) (sym (c .before .is-too-small .ensures) ∙ c .if2 .taken))
 
 wide-requires : tie.Need-is-too-wide-requires
-wide-requires c κs = column-of (start (past-kind (c .before)) .pre .0)
+wide-requires c κs = let s = start (past-kind (c .before)) in (s .pre .0, column-of (s .pre .1))
 
 wide : tie.Need-returns-3
 wide c =
@@ -50,12 +50,12 @@ wide c =
     sym (fails-3 _ _
     (kind-passes (past-kind k))
     (size-passes k)
-    (wide-is (s .pre .0) (s .args .glass) ∙ sym (c .before .is-too-wide .ensures) ∙ c .if3 .taken))
+    (wide-is (s .pre .1) (s .args .glass) ∙ sym (c .before .is-too-wide .ensures) ∙ c .if3 .taken))
 
 load-requires : tie.Need-is-overloaded-requires
 load-requires c κs =
     let s = start (past-kind (past-size (c .before))) in
-    (uniform-of (s .pre .0) (s .pre .1), s .pre .2)
+    (uniform-of (s .pre .1) (s .pre .2), s .pre .3)
 
 load : tie.Need-returns-4
 load c =
@@ -65,7 +65,7 @@ load c =
     (kind-passes (past-kind (past-size k)))
     (size-passes (past-size k))
     (point-passes k)
-    (overloaded-is (s .pre .0) (s .args .glass) ∙ sym (c .before .is-overloaded .ensures) ∙ c .if4 .taken))
+    (overloaded-is (s .pre .1) (s .args .glass) ∙ sym (c .before .is-overloaded .ensures) ∙ c .if4 .taken))
 
 all-pass : tie.Need-returns-5
 all-pass c =
@@ -75,7 +75,7 @@ all-pass c =
     (kind-passes (past-kind (past-size k)))
     (size-passes (past-size k))
     (point-passes k)
-    (overloaded-is (s .pre .0) (s .args .glass) ∙ sym (c .before .is-overloaded .ensures) ∙ c .if4 .left))
+    (overloaded-is (s .pre .1) (s .args .glass) ∙ sym (c .before .is-overloaded .ensures) ∙ c .if4 .left))
 
 pub judge-loaded-spec : {M : Type 1} → statement M
 judge-loaded-spec =

@@ -1,28 +1,34 @@
 -- `glasses::judge_glass` meets its contract: at each return the tests that led there say which cause it is, or none.
 use borrow.Author.Needs.{needs}
-use mathlib.Core.Path.{refl, sym, _∙_}
+use mathlib.Core.Path.{refl, sym, subst⁻¹, _∙_}
 use Rattle.job_glass.specs.GlassLine.{glassForm}
+use lib.Dec.{T}
 use Rattle.job_part.proofs.Judging.{entry-value, entry-repeated, entry-taken}
+use Rattle.job_glass.proofs.Values.{allowed-glass}
 use Rattle.job_glass.proofs.glasses.judge_glass.Statement.{statement}
 use Rattle.job_glass.proofs.glasses.judge_glass.Tie as tie
 
+-- the id of an allowed glass is one of the set's
+in-range : tie.Need-is-seen-requires
+in-range c κs = allowed-glass (c .before .before .args .glass) (subst⁻¹ T (sym (c .before .is-allowed .ensures) ∙ c .if1 .taken) tt) .id-high
+
 repeated : tie.Need-returns
-repeated c bytes within =
+repeated c ids set bytes within =
     entry-repeated glassForm _ _ _
     (sym (c .before .before .before .is-allowed .ensures) ∙ c .before .before .if1 .taken)
-    (sym (c .before .is-among .ensures) ∙ c .if2 .taken)
+    (sym (c .before .is-seen .ensures ids set) ∙ c .if2 .taken)
 
 taken : tie.Need-returns-2
-taken c bytes within = (
+taken c ids set bytes within = (
   entry-taken glassForm _ _ _
       (sym (c .before .before .before .is-allowed .ensures) ∙ c .before .before .if1 .taken)
-      (sym (c .before .is-among .ensures) ∙ c .if2 .left)
+      (sym (c .before .is-seen .ensures ids set) ∙ c .if2 .left)
       refl,
   within,
 )
 
 value : tie.Need-returns-3
-value c bytes within = entry-value glassForm _ _ _ (sym (c .before .is-allowed .ensures) ∙ c .if1 .left)
+value c ids set bytes within = entry-value glassForm _ _ _ (sym (c .before .is-allowed .ensures) ∙ c .if1 .left)
 
 pub judge-glass-spec : {M : Type 1} → statement M
-judge-glass-spec = tie.close (tie.spec (λ c κs. search needs) (λ c κs. search needs) repeated taken value)
+judge-glass-spec = tie.close (tie.spec (λ c κs. search needs) in-range repeated taken value)

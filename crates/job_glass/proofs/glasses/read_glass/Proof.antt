@@ -1,7 +1,7 @@
 -- `glasses::read_glass` meets its contract: no line gives cause 4, and a line is judged by what its numbers say.
 use borrow.Author.Needs.{needs}
 use mathlib.Core.Path.{ap, sym, _∙_}
-use lib.ListN.{take, drop}
+use lib.ListN.{drop}
 use denote.Ref.{now}
 use Rattle.job_glass.specs.GlassLine.{glassForm}
 use Rattle.job_part.specs.Part.{judgedEntry}
@@ -11,25 +11,24 @@ use Rattle.job_glass.proofs.glasses.read_glass.Statement.{statement}
 use Rattle.job_glass.proofs.glasses.read_glass.Tie as tie
 
 no-line : tie.Need-returns
-no-line c =
+no-line c ids set =
     let r = c .before .before in
     let a = r .before .before .before .args in
-    line-form glassForm (take (a .count) (now (a .ids))) (drop (a .at) (now (a .part)))
+    line-form glassForm ids (drop (a .at) (now (a .part)))
     (rw (c .enum-told .given .1) at (r .read-line .ensures))
 
 judged-line : tie.Need-returns-2
-judged-line c =
-    let k = c .before .before .before .before in
+judged-line c ids set =
+    let k = c .before .before .before in
     let r = k .before .before in
     let a = r .before .before .before .args in
-    let v = k .end .given in
+    let v = k .next .given in
     let read = rw (v .1) at (r .read-line .ensures) in
-    let ids = take (a .count) (now (a .ids)) in
     let rest = drop (v .0 .0) (now (a .part)) in
     rw
     (line-entry glassForm ids (drop (a .at) (now (a .part))) _ rest (read .0)
     ∙ ap (λ (x : Glass). judgedEntry glassForm ids x rest) (sym (c .before .glass-of .ensures)))
-    (c .judge-glass .ensures (now (a .part)) (read .1))
+    (c .judge-glass .ensures ids set (now (a .part)) (read .1))
 
 pub read-glass-spec : {M : Type 1} → statement M
 read-glass-spec =

@@ -3,7 +3,6 @@
 use borrow.Author.Needs.{needs}
 use native.Mathlib.Omega.{arith}
 use Prim.Native.Nat.{_-_}
-use mathlib.Core.Path.{refl}
 use lib.ListN.{drop}
 use denote.Ref.{now}
 use Rattle.job_line.specs.Line.{line}
@@ -29,7 +28,7 @@ loop-holds c =
     let f = c .before in
     let p = f .before .before .pre in
     let a = f .before .before .args in
-    scan-begin (now (a .s)) (a .start) (f .byte-at .result) (f .byte-at .ensures) (a .letter) (a .count) _ (c .if1 .left) (p .0) (p .1) refl
+    scan-begin (now (a .s)) (a .start) (f .byte-at .result) (f .byte-at .ensures) (a .letter) (a .count) _ (c .if1 .left) (p .0) (p .1) (p .2)
 
 gap : tie.Need-returns-2 Inv-loop μ-loop
 gap c =

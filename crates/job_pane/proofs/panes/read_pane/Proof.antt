@@ -1,7 +1,7 @@
 -- `panes::read_pane` meets its contract: no line gives cause 4, and a line is judged by what its numbers say.
 use borrow.Author.Needs.{needs}
 use mathlib.Core.Path.{ap, sym, _∙_}
-use lib.ListN.{take, drop}
+use lib.ListN.{drop}
 use denote.Ref.{now}
 use Rattle.job_pane.specs.PaneLine.{paneForm}
 use Rattle.job_part.specs.Part.{judgedEntry}
@@ -11,25 +11,24 @@ use Rattle.job_pane.proofs.panes.read_pane.Statement.{statement}
 use Rattle.job_pane.proofs.panes.read_pane.Tie as tie
 
 no-line : tie.Need-returns
-no-line c =
+no-line c ids set =
     let r = c .before .before in
     let a = r .before .before .before .args in
-    line-form paneForm (take (a .count) (now (a .ids))) (drop (a .at) (now (a .part)))
+    line-form paneForm ids (drop (a .at) (now (a .part)))
     (rw (c .enum-told .given .1) at (r .read-line .ensures))
 
 judged-line : tie.Need-returns-2
-judged-line c =
-    let k = c .before .before .before .before in
+judged-line c ids set =
+    let k = c .before .before .before in
     let r = k .before .before in
     let a = r .before .before .before .args in
-    let v = k .end .given in
+    let v = k .next .given in
     let read = rw (v .1) at (r .read-line .ensures) in
-    let ids = take (a .count) (now (a .ids)) in
     let rest = drop (v .0 .0) (now (a .part)) in
     rw
     (line-entry paneForm ids (drop (a .at) (now (a .part))) _ rest (read .0)
     ∙ ap (λ (x : Pane). judgedEntry paneForm ids x rest) (sym (c .before .pane-of .ensures)))
-    (c .judge-pane .ensures (now (a .part)) (read .1))
+    (c .judge-pane .ensures ids set (now (a .part)) (read .1))
 
 pub read-pane-spec : {M : Type 1} → statement M
 read-pane-spec =

@@ -1,0 +1,2 @@
+-- Laws of the bits of words.
+pub mod Bits

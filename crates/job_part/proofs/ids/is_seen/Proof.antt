@@ -1,0 +1,19 @@
+-- `ids::is_seen` meets its contract: the lowest bit of the shifted word is the id's.
+use borrow.Author.Needs.{needs}
+use mathlib.Core.Path.{_∙_}
+use lib.Bits.{and-mask}
+use Rattle.bits.specs.Bit.{has}
+use Rattle.job_part.proofs.ids.is_seen.Statement.{statement}
+use Rattle.job_part.proofs.ids.is_seen.Tie as tie
+
+pub is-seen-spec : {M : Type 1} → statement M
+unfolding has
+is-seen-spec =
+    tie.close
+    (tie.spec
+    (λ c. search needs)
+    (λ c. search needs)
+    (λ c. search needs)
+    (λ c. search needs)
+    (λ c. search needs)
+    (λ c ids s. rw (and-mask _ 1) (s .members (c .before .args .id))))
