@@ -1,14 +1,14 @@
 -- The texts of the examples: what is known of each call settles the text, which is then computed.
 --     texts    (c), (h), (i), (j)
 use Prim.Native.Nat.{ℕ}
-use mathlib.Core.Path.{_≡_, refl, ap, sym, _∙_}
-use mathlib.Core.List.{List, [], _∷_, _++_}
+use mathlib.Core.Path.{_≡_, ap, sym, _∙_}
+use mathlib.Core.List.{List, [], _++_}
 use native.Mathlib.Omega.{arith}
-use lib.ListN.{getD, take}
+use lib.ListN.{getD}
 use lib.Seq.{getD-take}
 use Rattle.job_line.specs.WrittenNumber.{writtenDigits, digitCount, writtenNumber, writtenNumbers}
 use Rattle.job_file.specs.File.{Outcome, accepted, refused, outcomeOf}
-use Rattle.job_grammar.specs.Examples.{bytesOf, pane3001, jobH, jobJ, glassesJ, panesJ}
+use Rattle.job_grammar.specs.Examples.{bytesOf, pane3001, jobH, glassesJ, panesJ}
 use Rattle.job_grammar.proofs.Examples.{too-long, nothing-wanted, thirteen-bytes, job-read}
 use Rattle.placing.specs.Placing.{nonzero}
 use Rattle.report.specs.Text.{paneLines, placingText, refusalText}

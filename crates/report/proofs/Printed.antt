@@ -3,18 +3,17 @@
 --     reported               a text of the file, written to the front of the buffer
 --     printed-refusal        the text of a refusal
 --     printable, printed     what the text of a placing asks of answers, counts and group, and what it is
-use Prim.Native.Nat.{ℕ, zero, suc, _+_, _*_, _≤_, _<_, min}
-use mathlib.Core.Path.{_≡_, refl, ap, ap₂, sym, subst, _∙_}
+use Prim.Native.Nat.{ℕ, zero, suc, _≤_, _<_, min}
+use mathlib.Core.Path.{_≡_, refl, ap, sym, subst, _∙_}
 use mathlib.Core.Logic.{_⊎_, inl, inr}
-use mathlib.Core.List.{List, [], _∷_, _++_}
+use mathlib.Core.List.{List}
 use native.Mathlib.Nat.{min-le-left, min-le-right}
 use native.Mathlib.Omega.{arith}
 use lib.ListN.{length, getD, take, length-take}
-use lib.Seq.{getD-take, length-take-le}
+use lib.Seq.{getD-take}
 use Rattle.ranges.proofs.Tests.{same-or-not}
 use Rattle.job_glass.specs.declared.Glass.{Glass}
 use Rattle.job_pane.specs.declared.Pane.{Pane}
-use Rattle.job_glass.specs.GlassLine.{blankGlass}
 use Rattle.job_pane.specs.PaneLine.{blankPane}
 use Rattle.job_file.specs.File.{Outcome, accepted, refused}
 use Rattle.job_file.specs.Rules.{AtFront}
@@ -24,8 +23,8 @@ use Rattle.placing.specs.Passing.{paneAt}
 use Rattle.placing.specs.Placing.{stocksOf, PassingId}
 use Rattle.placing.specs.Promise.{counts, Call, Group, Glazed}
 use Rattle.placing.proofs.Ids.{nonzero-le}
-use Rattle.report.specs.Text.{pairLine, paneLines, placingText, refusalText}
-use Rattle.report.specs.Promise.{TextOf, TextOfPlacing, Reported}
+use Rattle.report.specs.Text.{paneLines, placingText, refusalText}
+use Rattle.report.specs.Promise.{TextOf, Reported}
 use Rattle.report.specs.Steps.{Wrote, FourDigits, PaneIds}
 use Rattle.report.proofs.Wrote.{wrote-front}
 

@@ -11,7 +11,6 @@ use Rattle.glass_set.specs.Member.{has}
 use Rattle.matching.specs.Matching.{Greatest}
 use Rattle.matching.specs.Rows.{taskOf, wayOf}
 use Rattle.placing.specs.Placing.{stocksOf}
-use Rattle.placing.specs.Promise.{Glazed}
 use Rattle.placing.specs.Steps.{Answered}
 use Rattle.job_file.proofs.Fronts.{few-panes}
 use Rattle.placing.proofs.Glazing.{glazed-full, glazed-short}

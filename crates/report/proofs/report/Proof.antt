@@ -1,10 +1,10 @@
 -- `report` meets its contract: the text of the refusal, or that of the placing of the job that was read.
 use borrow.Author.Needs.{needs}
 use Prim.Native.Nat.{ℕ, _≤_}
-use mathlib.Core.Path.{_≡_, refl, sym, subst, _∙_}
+use mathlib.Core.Path.{_≡_, refl, sym}
 use mathlib.Core.List.{List}
 use native.Mathlib.Omega.{arith}
-use lib.ListN.{length, take, replicate}
+use lib.ListN.{length, replicate}
 use lib.Seq.{length-take-le}
 use denote.Ref.{now}
 use Rattle.job_part.specs.Cause.{numberOf}
@@ -14,7 +14,6 @@ use Rattle.job_file.proofs.Refused.{refused-within}
 use Rattle.job_file.proofs.Fronts.{few-panes}
 use Rattle.placing.specs.Promise.{Call, call, countsSay}
 use Rattle.report.specs.Text.{refusalText}
-use Rattle.report.specs.Steps.{Wrote}
 use Rattle.report.proofs.Printed.{reported, printed-refusal, listed-fits, printable, printed}
 use Rattle.report.proofs.report.Statement.{statement}
 use Rattle.report.proofs.report.Tie as tie

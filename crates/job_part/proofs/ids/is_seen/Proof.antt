@@ -1,6 +1,5 @@
 -- `ids::is_seen` meets its contract: the lowest bit of the shifted word is the id's.
 use borrow.Author.Needs.{needs}
-use mathlib.Core.Path.{_∙_}
 use lib.Bits.{and-mask}
 use Rattle.bits.specs.Bit.{has}
 use Rattle.job_part.proofs.ids.is_seen.Statement.{statement}
