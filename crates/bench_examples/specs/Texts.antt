@@ -1,4 +1,5 @@
--- Document 01, "The program `canopy`": what it prints of the examples that are files. No other text keeps the promise of `report`.
+-- Document 01, "The program `canopy`": what it prints of the examples that are files. No other text keeps the promise of
+-- `report`.
 use mathlib.Core.Path.{_≡_}
 use mathlib.Core.List.{List, _++_}
 use Prim.Native.Nat.{ℕ}

@@ -93,7 +93,14 @@ module _ {A : Type 0} (form : Form A) (blank : A) (part : List ℕ) where
         ∙ rw (one-left room) (lines-faulty form (offset + length part) (form .most - (n + 1)) (take n xs) (drop at part) cause (here more) fault)
         ∙ ap (stopped cause) (line-offset more)
 
-    pub progress-taken : (x : A) (to : ℕ) (marked : List ℕ) → at < length part → n < form .most → judged form (map (form .id) (take n xs)) (drop at part) ≡ taken x (drop to part) → to ≤ length part → IdSet marked (map (form .id) (take n xs) ++ (form .id x ∷ [])) → Progress form blank (offset + length part) part (set xs n x) marked (n + 1) to
+    pub progress-taken :
+        (x : A) (to : ℕ) (marked : List ℕ) →
+        at < length part →
+        n < form .most →
+        judged form (map (form .id) (take n xs)) (drop at part) ≡ taken x (drop to part) →
+        to ≤ length part →
+        IdSet marked (map (form .id) (take n xs) ++ (form .id x ∷ [])) →
+        Progress form blank (offset + length part) part (set xs n x) marked (n + 1) to
     progress-taken x to marked more room line inside ids =
         let longer : take (n + 1) (set xs n x) ≡ take n xs ++ (x ∷ []) = rw add-one (take-suc-set xs n x (rw (progress .room) room)) in
         record {

@@ -65,37 +65,56 @@ module _
     (front : AtFront glassArray glassCount paneArray paneCount) (c : Call)
     (g : Glazed (take glassCount glassArray) (stocksOf (take glassCount glassArray)) (take paneCount paneArray) c)
   where
-    answer-short : (k : ℕ) → k < paneCount → getD (take paneCount (c .answers-after)) k 0 ≤ 9999
-    answer-short k l =
-        go (subst (λ (n : ℕ). getD (take n (c .answers-after)) k 0 ≡ 0 ⊎ PassingId (take glassCount glassArray) (paneAt (take paneCount paneArray) k) (getD (take n (c .answers-after)) k 0)) (front .pane-count) (g .placing .passing k (omega (arith, front .pane-count))))
-      where
-        go :
-            {id : ℕ} → (id ≡ 0) ⊎ PassingId (take glassCount glassArray) (paneAt (take paneCount paneArray) k) id → id ≤ 9999
-        go (inl e) = omega (arith, e)
-        go (inr p) = omega (arith, p .is-id, glass-values (front .rules) (p .place) (p .of-file) .id-high)
+    -- The job, the answers to its panes and the group.
+    abbrev glasses : List Glass
+    glasses = take glassCount glassArray
 
-    answers-long : length (take paneCount (c .answers-after)) ≡ paneCount
+    abbrev panes : List Pane
+    panes = take paneCount paneArray
+
+    abbrev answers : List ℕ
+    answers = take paneCount (c .answers-after)
+
+    abbrev group : List ℕ
+    group = take (g .count) (c .group-after)
+
+    -- An answer is 0 or the id of a glass.
+    given-short : (pane : Pane) (id : ℕ) → (id ≡ 0) ⊎ PassingId glasses pane id → id ≤ 9999
+    given-short pane id (inl e) = omega (arith, e)
+    given-short pane id (inr p) = omega (arith, p .is-id, glass-values (front .rules) (p .place) (p .of-file) .id-high)
+
+    answer-short : (k : ℕ) → k < paneCount → getD answers k 0 ≤ 9999
+    answer-short k l =
+        subst (λ (n : ℕ). getD (take n (c .answers-after)) k 0 ≤ 9999) (front .pane-count)
+        (given-short (paneAt panes k) _ (g .placing .passing k (omega (arith, front .pane-count))))
+
+    answers-long : length answers ≡ paneCount
     answers-long =
         subst (λ (n : ℕ). length (take n (c .answers-after)) ≡ n) (front .pane-count) (g .placing .one-each)
 
-    -- The group is within its list, and its ids are those of panes.
-    pub group-printable : (g .count ≤ length (c .group-after)) × FourDigits (take (g .count) (c .group-after))
-    group-printable = go (same-or-not (g .placed) (length (take paneCount paneArray)))
-      where
-        listed : Group (take glassCount glassArray) (stocksOf (take glassCount glassArray)) (take paneCount paneArray) (g .count) c → (g .count ≤ length (c .group-after)) × FourDigits (take (g .count) (c .group-after))
-        listed s = (
-          omega (arith, min-le-right (g .count) (length (c .group-after)), length-take (g .count) (c .group-after), s .number),
-          λ k l. let p = s .short-group .of-file k l in
-              omega (arith, p .is-id, pane-values (front .rules) (p .place) (p .of-file) .id-high),
-        )
+    -- The group is within its list, and its ids are those of panes; where all are placed it is empty.
+    abbrev GroupFits : Type 0
+    GroupFits = (g .count ≤ length (c .group-after)) × FourDigits group
 
-        go :
-            (g .placed ≡ length (take paneCount paneArray)) ⊎ (g .placed ≡ length (take paneCount paneArray) → ⊥) →
-            (g .count ≤ length (c .group-after)) × FourDigits (take (g .count) (c .group-after))
-        go (inl all) =
-            let none = g .if-equal all .none in
-            (omega (arith, none), λ k l. absurd (omega (arith, l, none, length-take (g .count) (c .group-after), min-le-left (g .count) (length (c .group-after)))))
-        go (inr less) = listed (g .if-less less)
+    no-longer : length group ≤ g .count
+    no-longer = omega (arith, length-take (g .count) (c .group-after), min-le-left (g .count) (length (c .group-after)))
+
+    empty : g .count ≡ 0 → GroupFits
+    empty none = (omega (arith, none), λ k l. absurd (omega (arith, l, none, no-longer)))
+
+    of-panes : Group glasses (stocksOf glasses) panes (g .count) c → GroupFits
+    of-panes s = (
+      omega (arith, min-le-right (g .count) (length (c .group-after)), length-take (g .count) (c .group-after), s .number),
+      λ k l. let p = s .short-group .of-file k l in
+          omega (arith, p .is-id, pane-values (front .rules) (p .place) (p .of-file) .id-high),
+    )
+
+    group-fits : GroupFits
+    group-fits = go (same-or-not (g .placed) (length panes))
+      where
+        go : (g .placed ≡ length panes) ⊎ (g .placed ≡ length panes → ⊥) → GroupFits
+        go (inl all) = empty (g .if-equal all .none)
+        go (inr less) = of-panes (g .if-less less)
 
     module _ (wanted placed listed : ℕ) (is : c .result ≡ counts wanted placed listed) where
       same-placed : placed ≡ g .placed
@@ -105,30 +124,35 @@ module _
       same-count = let both = sym is ∙ g .result in cc
 
       pub listed-fits : listed ≤ length (c .group-after)
-      listed-fits = rw same-count (group-printable .0)
+      listed-fits = rw same-count (group-fits .0)
 
       pub printable :
-          PaneIds paneArray (take paneCount (c .answers-after)) × FourDigits (take listed (c .group-after)) × (placed ≤ 256)
+          PaneIds paneArray answers × FourDigits (take listed (c .group-after)) × (placed ≤ 256)
       printable = (
         record {
           few = omega (arith, answers-long, few-panes front);
           answers-short = λ k l. answer-short k (omega (arith, answers-long));
           ids-short = λ k l. pane-at front k (omega (arith, answers-long)) .id-high;
         },
-        rw same-count (group-printable .1),
-        omega (arith, same-placed, g .placed-is, nonzero-le (take (length (take paneCount paneArray)) (c .answers-after)) (length (take paneCount paneArray)) (g .placing .one-each), front .pane-count, few-panes front),
+        rw same-count (group-fits .1),
+        omega (
+          arith,
+          same-placed,
+          g .placed-is,
+          nonzero-le (take (length panes) (c .answers-after)) (length panes) (g .placing .one-each),
+          front .pane-count,
+          few-panes front,
+        ),
       )
 
       same-lines :
-          paneLines paneArray (take paneCount (c .answers-after)) paneCount
-          ≡ paneLines (take paneCount paneArray) (c .answers-after) paneCount
+          paneLines paneArray answers paneCount ≡ paneLines panes (c .answers-after) paneCount
       same-lines =
-          lines-agree paneArray (take paneCount paneArray) (take paneCount (c .answers-after)) (c .answers-after) paneCount
+          lines-agree paneArray panes answers (c .answers-after) paneCount
           (λ k l. sym (getD-take paneCount paneArray k blankPane l)) (λ k l. getD-take paneCount (c .answers-after) k 0 l)
 
       pub printed :
-          (o : Outcome) → o ≡ accepted (take glassCount glassArray) (take paneCount paneArray) →
-          let answers : List ℕ = take paneCount (c .answers-after) in
+          (o : Outcome) → o ≡ accepted glasses panes →
           TextOf o (placingText paneArray answers (length answers) placed (take listed (c .group-after)))
       unfolding placingText
       printed o accepted-is =

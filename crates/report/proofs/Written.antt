@@ -88,7 +88,9 @@ numbers-one n = ap (λ (l : List ℕ). space ∷ l) (append-nil (writtenNumber n
 pub numbers-next : (ns : List ℕ) (n : ℕ) → writtenNumbers (ns ++ (n ∷ [])) ≡ writtenNumbers ns ++ (space ∷ writtenNumber n)
 unfolding writtenNumbers
 numbers-next [] n = ap (λ (l : List ℕ). space ∷ l) (append-nil (writtenNumber n))
-numbers-next (m ∷ ns) n = rw (numbers-next ns n) (ap (λ (l : List ℕ). space ∷ l) (sym (append-assoc (writtenNumber m) (writtenNumbers ns) (space ∷ writtenNumber n))))
+numbers-next (m ∷ ns) n =
+    rw (numbers-next ns n)
+    (ap (λ (l : List ℕ). space ∷ l) (sym (append-assoc (writtenNumber m) (writtenNumbers ns) (space ∷ writtenNumber n))))
 
 pub numbers-long : (ns : List ℕ) → FourDigits ns → length (writtenNumbers ns) ≤ 5 * length ns
 unfolding writtenNumbers
@@ -116,7 +118,8 @@ pub panes-long :
 unfolding paneLines
 panes-long panes answers ids zero l = omega arith
 panes-long panes answers ids (suc n) l =
-    let line = pair-long (paneAt panes n .id) (getD answers n 0) (ids .ids-short n (omega arith)) (ids .answers-short n (omega arith)) in
+    let line = pair-long (paneAt panes n .id) (getD answers n 0) (ids .ids-short n (omega arith)) (ids .answers-short n
+    (omega arith)) in
     omega (
       arith,
       length-append (paneLines panes answers n) (pairLine (paneAt panes n .id) (getD answers n 0)),

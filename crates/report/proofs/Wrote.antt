@@ -72,5 +72,9 @@ pub wrote-front :
     (bytes before after : List ℕ) (end : ℕ) → Wrote bytes 0 before after end →
     (end ≡ length bytes) × (take end after ≡ bytes) × (drop end after ≡ drop end before)
 wrote-front bytes before after end w =
-    let long : length bytes ≡ end = omega (arith, w .end-is) in
-    (sym long, rw (w .buffer) (take-at bytes (drop end before) end long), rw (w .buffer) (drop-at bytes (drop end before) end long))
+    let long : length bytes ≡ end = omega (arith, w .end-is) in (
+      sym long,
+      rw (w .buffer) (take-at bytes (drop end before) end long),
+      rw (w .buffer) (drop-at bytes
+          (drop end before) end long),
+    )

@@ -1,4 +1,5 @@
--- `main` is safe and ends: what is read fits its buffer by the promise of `read_full`, and the text fits its own by that of `report`.
+-- `main` is safe and ends: what is read fits its buffer by the promise of `read_full`, and the text fits its own by that of
+-- `report`.
 use borrow.Author.Needs.{needs}
 use mathlib.Core.Path.{sym}
 use lib.Seq.{length-take-le}

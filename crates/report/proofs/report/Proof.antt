@@ -41,7 +41,8 @@ is-refused :
 is-refused k =
     let r = k .before .before in
     let v = k .checked .given in
-    refusal-read (now (r .before .before .args .file)) (r .read-job .result) (v .0 .0) (v .0 .1 .0) (r .read-job .ensures) (v .1)
+    refusal-read (now (r .before .before .args .file)) (r .read-job .result) (v .0 .0) (v .0 .1 .0) (r .read-job .ensures)
+    (v .1)
 
 refusal-requires : tie.Need-write-refusal-requires
 refusal-requires c κs =
@@ -58,7 +59,8 @@ refusal c =
     let offset : ℕ = k .checked .given .0 .1 .0 in
     reported (outcomeOf (now (a .file))) (refusalText (n .number-of .result) offset) (now (a .text))
     (c .write-refusal .last .1 .1 .0) (c .write-refusal .result)
-    (rw (n .number-of .ensures) (printed-refusal (outcomeOf (now (a .file))) _ offset (is-refused k))) (c .write-refusal .ensures)
+    (rw (n .number-of .ensures) (printed-refusal (outcomeOf (now (a .file))) _ offset (is-refused k)))
+    (c .write-refusal .ensures)
 
 -- The lists that are lent for the placing, and what it left in them.
 abbrev zeros : List ℕ
@@ -122,7 +124,12 @@ report-spec =
     (λ c. search needs)
     (λ c. search needs)
     (λ c. search needs)
-    (λ c κs. let k = c .before .before .before .before .before in (job k .lists, few-panes (job k .lists), few-panes (job k .lists)))
+    (λ c κs. let k = c .before .before .before .before .before in (
+      job k .lists,
+      few-panes (job k .lists),
+      few-panes
+          (job k .lists),
+    ))
     (λ c. answers-fit (c .before .before))
     (λ c. let p = c .before .before .before in sym (length-take-le (panes (read p)) (answers p) (answers-fit p)))
     (λ c. group-fits (c .before .before .before))

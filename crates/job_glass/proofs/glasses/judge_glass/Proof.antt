@@ -10,7 +10,9 @@ use Rattle.job_glass.proofs.glasses.judge_glass.Tie as tie
 
 -- the id of an allowed glass is one of the set's
 in-range : tie.Need-is-seen-requires
-in-range c κs = allowed-glass (c .before .before .args .glass) (subst⁻¹ T (sym (c .before .is-allowed .ensures) ∙ c .if1 .taken) tt) .id-high
+in-range c κs =
+    let allowed = subst⁻¹ T (sym (c .before .is-allowed .ensures) ∙ c .if1 .taken) tt in
+    allowed-glass (c .before .before .args .glass) allowed .id-high
 
 repeated : tie.Need-returns
 repeated c ids set bytes within =

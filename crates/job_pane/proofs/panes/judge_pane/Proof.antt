@@ -10,7 +10,8 @@ use Rattle.job_pane.proofs.panes.judge_pane.Tie as tie
 
 -- the id of an allowed pane is one of the set's
 in-range : tie.Need-is-seen-requires
-in-range c κs = allowed-id (c .before .before .args .pane) (subst⁻¹ T (sym (c .before .is-allowed .ensures) ∙ c .if1 .taken) tt)
+in-range c κs =
+    allowed-id (c .before .before .args .pane) (subst⁻¹ T (sym (c .before .is-allowed .ensures) ∙ c .if1 .taken) tt)
 
 repeated : tie.Need-returns
 repeated c ids set bytes within =

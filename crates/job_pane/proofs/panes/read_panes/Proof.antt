@@ -54,7 +54,8 @@ line :
     let l = at-line c .before .before .loop in
     let part = now (at-line c .before .before .before .before .args .part) in
     let v = c .before .pane .given in
-    (judged paneForm (map (λ (x : Pane). x .id) (take (l .n) (l .panes))) (drop (l .at) part) ≡ taken (v .0 .0) (drop (v .0 .1 .0) part))
+    (judged paneForm (map (λ (x : Pane). x .id) (take (l .n) (l .panes))) (drop (l .at) part)
+    ≡ taken (v .0 .0) (drop (v .0 .1 .0) part))
     × (v .0 .1 .0 ≤ length part)
 line c =
     let r = c .before .before .before in
@@ -77,8 +78,8 @@ loop-again c =
     let e = at-line k in
     let l = e .before .before .loop in
     let a = e .before .before .before .before .args in
-    progress-taken paneForm blankPane (now (a .part)) (a .offset) (l .panes) (l .seen) (l .n) (l .at) (l .inv) (v .0 .0) (v .0 .1 .0) (c .mark .last .0) (omega arith) (room e) (line k .0) (line k .1)
-    (c .mark .ensures _ (l .inv .ids))
+    progress-taken paneForm blankPane (now (a .part)) (a .offset) (l .panes) (l .seen) (l .n) (l .at) (l .inv)
+    (v .0 .0) (v .0 .1 .0) (c .mark .last .0) (omega arith) (room e) (line k .0) (line k .1) (c .mark .ensures _ (l .inv .ids))
 
 whole : tie.Need-returns-3 Inv-loop μ-loop
 whole c =

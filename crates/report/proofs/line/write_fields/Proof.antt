@@ -41,8 +41,10 @@ again c =
       w .write-field .kept .1 .0 ∙ l .loop .inv .1,
       omega (arith, l .loop .inv .2, w .write-field .ensures .end-is, four),
       rw (next, numbers-next (take (l .loop .next) (now (a .numbers))) n)
-          (wrote-then (a .at) (now (a .text)) (writtenNumbers (take (l .loop .next) (now (a .numbers)))) (space ∷ writtenNumber n)
-          (l .loop .text) (w .write-field .last .1 .0) (l .loop .end) (w .write-field .result) (omega (arith, s .pre .1)) (l .loop .inv .3)
+          (wrote-then (a .at) (now (a .text)) (writtenNumbers (take (l .loop .next) (now (a .numbers))))
+          (space ∷ writtenNumber n)
+          (l .loop .text) (w .write-field .last .1 .0) (l .loop .end) (w .write-field .result) (omega (arith, s .pre .1))
+          (l .loop .inv .3)
           (w .write-field .ensures)),
     )
 
@@ -50,7 +52,8 @@ returns : tie.Need-returns Inv-loop μ-loop
 returns c =
     let l = c .before in
     let a = start l .args in
-    let all : take (l .loop .next) (now (a .numbers)) ≡ now (a .numbers) = take-all (l .loop .next) (now (a .numbers)) (omega arith) in
+    let all : take (l .loop .next) (now (a .numbers)) ≡ now (a .numbers) = take-all (l .loop .next) (now (a .numbers))
+    (omega arith) in
     rw all at (l .loop .inv .3)
 
 pub write-fields-spec : {M : Type 1} → statement M
@@ -66,8 +69,15 @@ write-fields-spec =
     (λ c. search needs)
     (λ c. let l = c .before .before in record { fits = omega (arith, start l .pre .0 (l .loop .next) (omega arith)) })
     (λ c κs.
-    let l = c .before .before .before in
-    (omega (arith, start l .pre .0 (l .loop .next) (omega arith)), omega (arith, l .loop .inv .1, l .loop .inv .2, start l .pre .1)))
+    let l = c .before .before .before in (
+      omega (arith, start l .pre .0 (l .loop .next) (omega arith)),
+      omega (
+        arith,
+        l .loop .inv .1,
+        l .loop .inv .2,
+        start l .pre .1,
+      ),
+    ))
     (λ c. omega arith)
     again
     (λ c. c .before .loop .inv .1)

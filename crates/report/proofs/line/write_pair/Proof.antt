@@ -41,7 +41,8 @@ second-kept c = c .write-field .kept .1 .0 ∙ first-kept (number c)
 line : (c : tie.After-slice-known3) →
     let f = c .before .before in
     let a = start (number f) .args in
-    Wrote (lineOf (writtenNumber (a .a)) (a .b ∷ [])) (a .at) (now (a .text)) (set (f .write-field .last .1 .0) (f .write-field .result) newline)
+    Wrote (lineOf (writtenNumber (a .a)) (a .b ∷ [])) (a .at) (now (a .text)) (set (f .write-field .last .1 .0)
+    (f .write-field .result) newline)
     (f .write-field .result + 1)
 line c =
     let f = c .before .before in
@@ -60,6 +61,14 @@ write-pair-spec =
     (λ c κs. search needs)
     (λ c κs. let n = c .before .before .before in omega (arith, first-end n, first-kept n, start n .pre .2))
     (λ c. let f = c .before .before in omega (arith, second-end f, second-kept f, start (number f) .pre .2))
-    (λ c. let f = c .before .before in record { fits = omega (arith, second-end f, start (number f) .pre .2, start (number f) .good) })
+    (λ c. let f = c .before .before in record {
+      fits = omega (
+        arith,
+        second-end f,
+        start (number f) .pre .2,
+        start
+            (number f) .good,
+      );
+    })
     (λ c. let f = c .before .before in length-set (f .write-field .last .1 .0) (f .write-field .result) newline ∙ second-kept f)
     line)

@@ -33,7 +33,8 @@ again c =
       omega arith,
       length-set (l .text) (a .at + l .next) letter ∙ l .inv .1,
       rw (next, end)
-          (wrote-next (a .at) (now (a .text)) (take (l .next) (now (a .word))) (l .text) (a .at + l .next) letter (omega (arith, s .pre))
+          (wrote-next (a .at) (now (a .text)) (take (l .next) (now (a .word))) (l .text) (a .at + l .next) letter (omega
+          (arith, s .pre))
           (omega (arith, s .pre, l .inv .1)) (l .inv .2)),
     )
 

@@ -21,7 +21,12 @@ again c =
     let l = c .before .loop in
     let a = c .before .before .args in
     let left : l .left ≡ (l .left - 1) + 1 = omega arith in
-    let next = digits-next (a .at) (l .left - 1) (l .rest) (l .text) (omega (arith, l .inv .0, l .inv .1, c .before .before .pre)) in (
+    let next = digits-next (a .at) (l .left - 1) (l .rest) (l .text) (omega (
+      arith,
+      l .inv .0,
+      l .inv .1,
+      c .before .before .pre,
+    )) in (
       omega (arith, l .inv .0),
       length-set (l .text) (a .at + (l .left - 1)) (48 + l .rest % 10) ∙ l .inv .1,
       next ∙ ap (λ (k : ℕ). withDigits (a .at) k (l .rest) (l .text)) (sym left) ∙ l .inv .2,

@@ -18,8 +18,13 @@ write-field-spec =
     (tie.spec
     (λ c. search needs)
     (λ c. search needs)
-    (λ c κs. let s = c .before .before in (s .pre .0, rw (length-set (now (s .args .text)) (s .args .at) space) (omega (arith, s .pre .1))))
-    (λ c. let a = c .before .before .before .before .before .args in c .before .before .write-number .kept .1 .0 ∙ length-set (now (a .text)) (a .at) space)
+    (λ c κs. let s = c .before .before in (
+      s .pre .0,
+      rw (length-set (now (s .args .text)) (s .args .at) space) (omega
+          (arith, s .pre .1)),
+    ))
+    (λ c. let a = c .before .before .before .before .before .args in
+    c .before .before .write-number .kept .1 .0 ∙ length-set (now (a .text)) (a .at) space)
     (λ c.
     let w = c .before .before in
     let s = w .before .before .before in

@@ -16,7 +16,13 @@ write-number-spec =
     tie.close
     (tie.spec
     (λ c κs. search needs)
-    (λ c κs. let s = c .before .before .before in omega (arith, s .pre .1, c .before .digit-count .ensures, few-digits (s .args .n)))
+    (λ c κs. let s = c .before .before .before in omega (
+      arith,
+      s .pre .1,
+      c .before .digit-count .ensures,
+      few-digits
+          (s .args .n),
+    ))
     (λ c. search needs)
     (λ c.
     let w = c .before .before in

@@ -28,7 +28,12 @@ start l = l .before .before .before
 end-low : (l : tie.At-loop Inv-loop μ-loop) → l .loop .end ≤ 10 * l .loop .next
 end-low l =
     let s = start l in
-    omega (arith, l .loop .inv .2 .end-is, panes-long (s .args .t1) (now (s .args .answers)) (s .pre .0) (l .loop .next) (l .loop .inv .0))
+    omega (
+      arith,
+      l .loop .inv .2 .end-is,
+      panes-long (s .args .t1) (now (s .args .answers)) (s .pre .0) (l .loop .next)
+          (l .loop .inv .0),
+    )
 
 again : tie.Need-loop-again Inv-loop μ-loop
 unfolding paneLines
@@ -41,7 +46,8 @@ again c =
       omega arith,
       w .write-pair .kept .1 .1 .0 ∙ l .loop .inv .1,
       rw (add-one i, paneLines)
-          (wrote-then 0 (now (a .text)) (paneLines (a .t1) (now (a .answers)) i) (pairLine (paneAt (a .t1) i .id) (getD (now (a .answers)) i 0))
+          (wrote-then 0 (now (a .text)) (paneLines (a .t1) (now (a .answers)) i) (pairLine (paneAt (a .t1) i .id) (getD (now
+          (a .answers)) i 0))
           (l .loop .text) (w .write-pair .last .1 .1 .0) (l .loop .end) (w .write-pair .result) (omega arith) (l .loop .inv .2)
           (w .write-pair .ensures)),
     )
@@ -74,8 +80,20 @@ write-panes-spec =
     (λ c. search needs)
     (λ c. search needs)
     (λ c. search needs)
-    (λ c. let l = c .before .before .before .before in record { fits = omega (arith, start l .pre .0 .ids-short (l .loop .next) (omega arith)) })
-    (λ c. let l = c .before .before .before .before in record { fits = omega (arith, start l .pre .0 .answers-short (l .loop .next) (omega arith)) })
+    (λ c. let l = c .before .before .before .before in record {
+      fits = omega (
+        arith,
+        start l .pre .0 .ids-short
+            (l .loop .next) (omega arith),
+      );
+    })
+    (λ c. let l = c .before .before .before .before in record {
+      fits = omega (
+        arith,
+        start l .pre .0 .answers-short
+            (l .loop .next) (omega arith),
+      );
+    })
     pair-requires
     (λ c. omega arith)
     again

@@ -59,7 +59,8 @@ both c =
     let p = lines c in
     let a = start p .args in
     let n = length (now (a .answers)) in
-    wrote-then 0 (now (a .text)) (paneLines (a .panes) (now (a .answers)) n) (pairLine (a .placed) n) (p .write-panes .last .1 .1 .0)
+    wrote-then 0 (now (a .text)) (paneLines (a .panes) (now (a .answers)) n) (pairLine (a .placed) n)
+    (p .write-panes .last .1 .1 .0)
     (c .write-pair .last .1 .1 .0) (p .write-panes .result) (c .write-pair .result) (omega arith) (p .write-panes .ensures)
     (c .write-pair .ensures)
 
@@ -83,7 +84,8 @@ some-left c =
       ne-eqb (a .placed) n (e .if1 .left),
       ← append-assoc (paneLines (a .panes) (now (a .answers)) n) (pairLine (a .placed) n) (lineOf short (now (a .group))),
     )
-    (wrote-then 0 (now (a .text)) (paneLines (a .panes) (now (a .answers)) n ++ pairLine (a .placed) n) (lineOf short (now (a .group)))
+    (wrote-then 0 (now (a .text)) (paneLines (a .panes) (now (a .answers)) n ++ pairLine (a .placed) n) (lineOf short (now
+    (a .group)))
     (p .write-pair .last .1 .1 .0) (h .write-short .last .1 .0) (p .write-pair .result) (h .write-short .result) (omega arith)
     (both p) (h .write-short .ensures))
 

@@ -52,15 +52,19 @@ line c =
     let w = word n in
     let s = start w in
     let a = s .args in
-    let fields : writtenNumbers (a .number ∷ a .offset ∷ []) ≡ (space ∷ writtenNumber (a .number)) ++ (space ∷ writtenNumber (a .offset)) =
+    let fields : writtenNumbers (a .number ∷ a .offset ∷ []) ≡ (space ∷ writtenNumber (a .number)) ++ (space ∷ writtenNumber
+    (a .offset)) =
     numbers-next (a .number ∷ []) (a .offset) ∙ rw numbers-one in
     rw fields
-    (wrote-line 0 (now (a .text)) refusedWord ((space ∷ writtenNumber (a .number)) ++ (space ∷ writtenNumber (a .offset))) (w .write-word .last .1 .0)
+    (wrote-line 0 (now (a .text)) refusedWord ((space ∷ writtenNumber (a .number)) ++ (space ∷ writtenNumber (a .offset)))
+    (w .write-word .last .1 .0)
     (o .write-field2 .last .1 .0) (w .write-word .result) (o .write-field2 .result) (omega arith) (room o)
     (w .write-word .ensures)
-    (wrote-then (w .write-word .result) (w .write-word .last .1 .0) (space ∷ writtenNumber (a .number)) (space ∷ writtenNumber (a .offset))
+    (wrote-then (w .write-word .result) (w .write-word .last .1 .0) (space ∷ writtenNumber (a .number))
+    (space ∷ writtenNumber (a .offset))
     (n .write-field .last .1 .0) (o .write-field2 .last .1 .0) (n .write-field .result) (o .write-field2 .result)
-    (omega (arith, w .write-word .ensures .end-is, w .write-word .kept .1 .0, s .pre .2)) (n .write-field .ensures) (o .write-field2 .ensures)))
+    (omega (arith, w .write-word .ensures .end-is, w .write-word .kept .1 .0, s .pre .2)) (n .write-field .ensures)
+    (o .write-field2 .ensures)))
 
 pub write-refusal-spec : {M : Type 1} → statement M
 write-refusal-spec =
@@ -69,8 +73,18 @@ write-refusal-spec =
     (λ c. search needs)
     (λ c κs. search needs)
     (λ c κs. search needs)
-    (λ c κs. let n = c .before .before .before in (start (word n) .pre .1, omega (arith, number-end n, number-kept n, start (word n) .pre .2)))
+    (λ c κs. let n = c .before .before .before in (
+      start (word n) .pre .1,
+      omega (
+        arith,
+        number-end n,
+        number-kept n,
+        start
+            (word n) .pre .2,
+      ),
+    ))
     (λ c. room (c .before .before))
     (λ c. record { fits = omega (arith, offset-end (c .before .before)) })
-    (λ c. let o = c .before .before in length-set (o .write-field2 .last .1 .0) (o .write-field2 .result) newline ∙ offset-kept o)
+    (λ c. let o = c .before .before in length-set (o .write-field2 .last .1 .0)
+    (o .write-field2 .result) newline ∙ offset-kept o)
     line)
