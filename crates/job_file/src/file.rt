@@ -15,8 +15,8 @@ ghost use Rattle.job_file.specs.File.{outcomeOf, partsOutcome, refused};
 ghost use Rattle.job_part.specs.Cause.{numberOf};
 ghost use Rattle.job_file.specs.Answer.{Reads};
 
-// A file's glasses and panes, or the first cause against it.
-pub(crate) fn read_file(file: &[u8]) -> Reading
+// The glasses and the panes of a file, or the first cause against it.
+pub fn read_job(file: &[u8]) -> Reading
     ensures { λ r. ⌜ Reads (outcomeOf (now (file .entry))) r ⌝ }
 {
     let length = file.len();

@@ -5,12 +5,13 @@
 mod file;
 mod trailer;
 
+pub use file::read_job;
 use job_glass::Glass;
 use job_pane::Pane;
 use job_part::Cause;
 ghost use mathlib.Core.Path.{_≡_};
 ghost use Rattle.job_file.specs.File.{outcomeOf};
-ghost use Rattle.job_file.specs.Answer.{says, answerOf, Reads};
+ghost use Rattle.job_file.specs.Answer.{says, answerOf};
 
 // The answer to a check: how many glasses and panes the file has, or why and where it is refused.
 pub enum Checked {
@@ -30,12 +31,5 @@ pub struct Reading {
 pub fn check(file: &[u8]) -> Checked
     ensures { λ r. ⌜ says r ≡ answerOf (outcomeOf (now (file .entry))) ⌝ }
 {
-    file::read_file(file).checked
-}
-
-// The glasses and the panes of a file.
-pub fn read_job(file: &[u8]) -> Reading
-    ensures { λ r. ⌜ Reads (outcomeOf (now (file .entry))) r ⌝ }
-{
-    file::read_file(file)
+    read_job(file).checked
 }

@@ -1,9 +1,9 @@
--- `file::read_file` meets its contract: each return is the outcome that the tests on the way there decide.
+-- `file::read_job` meets its contract: each return is the outcome that the tests on the way there decide.
 use borrow.Author.Needs.{needs}
 use denote.Ref.{now}
 use Rattle.job_file.proofs.Files.{tail-part, file-short, file-over, file-trailer, file-order, file-beyond, file-parts}
-use Rattle.job_file.proofs.file.read_file.Statement.{statement}
-use Rattle.job_file.proofs.file.read_file.Tie as tie
+use Rattle.job_file.proofs.file.read_job.Statement.{statement}
+use Rattle.job_file.proofs.file.read_job.Tie as tie
 
 short : tie.Need-returns
 short c = rw (file-short (now (c .before .before .before .args .file)) (c .before .if1 .taken)) (c .refusal .ensures)
@@ -52,8 +52,8 @@ parts c =
     rw (file-parts file (e .before .if1 .left) (e .if2 .left) (v .0 .0) (v .0 .1 .0) (rw (tail-part file _, v .1) at (r .read-trailer .ensures)) (c .before .before .if3 .left) (c .before .if4 .left))
     (c .read-parts .ensures)
 
-pub read-file-spec : {M : Type 1} → statement M
-read-file-spec =
+pub read-job-spec : {M : Type 1} → statement M
+read-job-spec =
     tie.close
     (tie.spec
     (λ c κs. search needs)
