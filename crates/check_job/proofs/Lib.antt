@@ -1,1 +1,2 @@
+-- Counting newlines.
 pub mod Newlines

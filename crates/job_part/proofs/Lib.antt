@@ -1,8 +1,11 @@
+-- The ids of earlier lines.
 pub mod Members
 pub mod IdSets
+-- How a line is judged, and the lines of a part one after the other.
 pub mod Judging
 pub mod Parts
 pub mod Lists
+-- What every taken line keeps, a whole part keeps.
 pub mod Kept
 pub mod Laws
 pub mod Tests

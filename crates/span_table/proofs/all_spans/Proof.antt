@@ -1,3 +1,4 @@
+-- `all_spans` meets its contract: the constant is the definition's table, by computation.
 use mathlib.Core.Path.{refl}
 use Rattle.span_table.specs.Spans.{spans}
 use Rattle.span_table.proofs.all_spans.Statement.{statement}

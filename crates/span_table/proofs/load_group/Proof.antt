@@ -1,3 +1,4 @@
+-- `load_group` meets its contract: each arm is a case of the definition.
 use borrow.Author.Tests.{ne-eqb}
 use Rattle.span_table.proofs.load_group.Statement.{statement}
 use Rattle.span_table.proofs.load_group.Tie as tie

@@ -1,3 +1,4 @@
+-- `max_span` meets its contract: the row is within the table, and the table lent is the definition's.
 use borrow.Author.Needs.{needs}
 use native.Mathlib.Omega.{arith}
 use Rattle.span_table.proofs.Rows.{row-high}

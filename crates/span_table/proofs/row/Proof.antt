@@ -1,3 +1,4 @@
+-- `row` meets its contract: it adds up what its parts give.
 use borrow.Author.Needs.{needs}
 use native.Mathlib.Omega.{arith}
 use Rattle.span_table.proofs.Rows.{table-high, load-high, thickness-high}

@@ -1,3 +1,4 @@
+-- `table` meets its contract: each arm is a case of the definition.
 use borrow.Author.Tests.{ne-eqb}
 use Rattle.span_table.proofs.table.Statement.{statement}
 use Rattle.span_table.proofs.table.Tie as tie

@@ -1,3 +1,4 @@
+-- `thickness_row` meets its contract: each arm is a case of the definition.
 use borrow.Author.Tests.{ne-eqb}
 use Rattle.span_table.proofs.thickness_row.Statement.{statement}
 use Rattle.span_table.proofs.thickness_row.Tie as tie

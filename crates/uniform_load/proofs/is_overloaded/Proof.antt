@@ -1,3 +1,4 @@
+-- `is_overloaded` meets its contract: both products fit 64 bits, so the test is the definition's.
 use borrow.Author.Needs.{needs}
 use Prim.Native.Nat.{_≤_}
 use native.Mathlib.Nat.{mul-le-mul}

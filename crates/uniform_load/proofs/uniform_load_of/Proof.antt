@@ -1,3 +1,4 @@
+-- `uniform_load_of` meets its contract: its parts give what the definition has.
 use borrow.Author.Needs.{needs}
 use Prim.Native.Nat.{_≤_}
 use native.Mathlib.Nat.{mul-le-mul}

@@ -1,3 +1,4 @@
+-- `judge` meets its contract: the pane is loaded, and the table is made, for the one glass.
 use borrow.Author.Needs.{needs}
 use mathlib.Core.Path.{ap, sym, _∙_}
 use Rattle.clauses.specs.Loaded.{loadedOf}

@@ -1,3 +1,4 @@
+-- `load_pane` meets its contract: its parts give what the definition has.
 use borrow.Author.Needs.{needs}
 use Rattle.clauses.proofs.judging.load_pane.Statement.{statement}
 use Rattle.clauses.proofs.judging.load_pane.Tie as tie

@@ -1,3 +1,4 @@
+-- `is_too_small` meets its contract: it is the definition's test of the two sides.
 use borrow.Author.Needs.{needs}
 use Rattle.clauses.proofs.size.is_too_small.Statement.{statement}
 use Rattle.clauses.proofs.size.is_too_small.Tie as tie

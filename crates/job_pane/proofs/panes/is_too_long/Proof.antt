@@ -1,3 +1,4 @@
+-- `is_too_long` meets its contract: three times a side fits 64 bits, so the test is the definition's.
 use borrow.Author.Needs.{needs}
 use Rattle.job_pane.proofs.panes.is_too_long.Statement.{statement}
 use Rattle.job_pane.proofs.panes.is_too_long.Tie as tie

@@ -1,3 +1,4 @@
+-- `max_row` meets its contract: the row of a fifth of the angle is the one at or next below it.
 use borrow.Author.Needs.{needs}
 use mathlib.Core.Path.{sym}
 use Rattle.uniform_load.proofs.DeadLoads.{in-place}

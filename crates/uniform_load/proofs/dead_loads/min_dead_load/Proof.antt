@@ -1,3 +1,4 @@
+-- `min_dead_load` meets its contract: no product is too large, and the division rounds down.
 use borrow.Author.Needs.{needs}
 use native.Mathlib.Omega.{arith}
 use Rattle.uniform_load.proofs.Bounds.{weight-high}

@@ -1,3 +1,4 @@
+-- `min_row` meets its contract: the row of a fifth of the angle, rounded up, is the one at or next above it.
 use borrow.Author.Needs.{needs}
 use mathlib.Core.Path.{sym}
 use Rattle.uniform_load.proofs.DeadLoads.{in-place}

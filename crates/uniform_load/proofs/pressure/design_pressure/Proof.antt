@@ -1,3 +1,4 @@
+-- `design_pressure` meets its contract: of the two pressures it gives the larger.
 use borrow.Author.Needs.{needs}
 use native.Mathlib.Omega.{arith}
 use Rattle.uniform_load.proofs.Bounds.{max-load-high, min-load-high}

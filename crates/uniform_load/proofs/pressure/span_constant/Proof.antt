@@ -1,3 +1,4 @@
+-- `span_constant` meets its contract, by the edges.
 use borrow.Author.Tests.{eq-eqb, ne-eqb}
 use Rattle.uniform_load.proofs.pressure.span_constant.Statement.{statement}
 use Rattle.uniform_load.proofs.pressure.span_constant.Tie as tie
