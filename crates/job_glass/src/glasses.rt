@@ -39,7 +39,8 @@ pub const NO_GLASS: Glass = Glass {
 // The glass part, which begins at the file's offset `offset`.
 pub fn read_glasses(part: &[u8], offset: usize) -> GlassPart
     requires { ⌜ offset + length (now part) ≤ 65535 ⌝ }
-    ensures { λ r. ⌜ PartRead 64 blankGlass (partLines glassForm (offset + length (now (part .entry))) (now (part .entry))) (r .glasses) (r .end) ⌝ }
+    ensures { λ r. ⌜ PartRead 64 blankGlass
+        (partLines glassForm (offset + length (now (part .entry))) (now (part .entry))) (r .glasses) (r .end) ⌝ }
 {
     let mut glasses = [NO_GLASS; 64];
     let mut seen = [0u64; 157];
@@ -75,7 +76,8 @@ pub fn read_glasses(part: &[u8], offset: usize) -> GlassPart
 
 // The glass line at a position, behind lines whose ids are in a set.
 fn read_glass(part: &[u8], at: usize, seen: &[u64; 157]) -> GlassLine
-    ensures { λ r. ⌜ ((ids : List ℕ) → IdSet (now (seen .entry)) ids → GlassRead (now (part .entry)) (judged glassForm ids (drop at (now (part .entry)))) r) ⌝ }
+    ensures { λ r. ⌜ ((ids : List ℕ) → IdSet (now (seen .entry)) ids →
+        GlassRead (now (part .entry)) (judged glassForm ids (drop at (now (part .entry)))) r) ⌝ }
 {
     let mut numbers = [0u32; 9];
     match read_line(part, at, b'G', 8, &mut numbers) {
@@ -86,7 +88,8 @@ fn read_glass(part: &[u8], at: usize, seen: &[u64; 157]) -> GlassLine
 
 // A glass line that ends at `next`, judged by the causes 5 and 6.
 fn judge_glass(glass: Glass, next: usize, seen: &[u64; 157]) -> GlassLine
-    ensures { λ r. ⌜ ((ids : List ℕ) → IdSet (now (seen .entry)) ids → (bytes : List ℕ) → next ≤ length bytes → GlassRead bytes (judgedEntry glassForm ids glass (drop next bytes)) r) ⌝ }
+    ensures { λ r. ⌜ ((ids : List ℕ) → IdSet (now (seen .entry)) ids → (bytes : List ℕ) → next ≤ length bytes →
+        GlassRead bytes (judgedEntry glassForm ids glass (drop next bytes)) r) ⌝ }
 {
     if is_allowed(glass) {
         if is_seen(seen, glass.id) {

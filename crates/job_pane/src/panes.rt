@@ -42,7 +42,8 @@ pub const NO_PANE: Pane = Pane {
 // The pane part, which begins at the file's offset `offset`.
 pub fn read_panes(part: &[u8], offset: usize) -> PanePart
     requires { ⌜ offset + length (now part) ≤ 65535 ⌝ }
-    ensures { λ r. ⌜ PartRead 256 blankPane (partLines paneForm (offset + length (now (part .entry))) (now (part .entry))) (r .panes) (r .end) ⌝ }
+    ensures { λ r. ⌜ PartRead 256 blankPane
+        (partLines paneForm (offset + length (now (part .entry))) (now (part .entry))) (r .panes) (r .end) ⌝ }
 {
     let mut panes = [NO_PANE; 256];
     let mut seen = [0u64; 157];
@@ -78,7 +79,8 @@ pub fn read_panes(part: &[u8], offset: usize) -> PanePart
 
 // The pane line at a position, behind lines whose ids are in a set.
 fn read_pane(part: &[u8], at: usize, seen: &[u64; 157]) -> PaneLine
-    ensures { λ r. ⌜ ((ids : List ℕ) → IdSet (now (seen .entry)) ids → PaneRead (now (part .entry)) (judged paneForm ids (drop at (now (part .entry)))) r) ⌝ }
+    ensures { λ r. ⌜ ((ids : List ℕ) → IdSet (now (seen .entry)) ids →
+        PaneRead (now (part .entry)) (judged paneForm ids (drop at (now (part .entry)))) r) ⌝ }
 {
     let mut numbers = [0u32; 9];
     match read_line(part, at, b'P', 9, &mut numbers) {
@@ -89,7 +91,8 @@ fn read_pane(part: &[u8], at: usize, seen: &[u64; 157]) -> PaneLine
 
 // A pane line that ends at `next`, judged by the causes 5, 6 and 7.
 fn judge_pane(pane: Pane, next: usize, seen: &[u64; 157]) -> PaneLine
-    ensures { λ r. ⌜ ((ids : List ℕ) → IdSet (now (seen .entry)) ids → (bytes : List ℕ) → next ≤ length bytes → PaneRead bytes (judgedEntry paneForm ids pane (drop next bytes)) r) ⌝ }
+    ensures { λ r. ⌜ ((ids : List ℕ) → IdSet (now (seen .entry)) ids → (bytes : List ℕ) → next ≤ length bytes →
+        PaneRead bytes (judgedEntry paneForm ids pane (drop next bytes)) r) ⌝ }
 {
     if is_allowed(pane) {
         if is_seen(seen, pane.id) {
