@@ -58,7 +58,7 @@ typedef struct {
     size_t group;  /* panes in the short group: 0 where placed is wanted */
 } bordavina_place_result;
 
-/* Whether a file is accepted. */
+/* Whether a file is accepted. `file` is only read, here and below. */
 bordavina_check_result bordavina_check(const uint8_t *file, size_t file_length);
 
 /* Whether the glass of that id may be used for the pane of that id. The clauses: 1 kind, 2 size, 3 point load, 4 uniform
@@ -69,16 +69,24 @@ bordavina_verdict_result bordavina_verdict(const uint8_t *file, size_t file_leng
  *
  * The first `wanted` entries of `answers`, one for each pane in file order, then hold a glass id for a placed pane and 0 for
  * another; later entries are untouched. Every given glass passes for its pane, no glass is given more often than its stock,
- * and a pane with 0 has no passing glass with a sheet to spare. `placed` is `wanted` exactly when some way exists to serve
- * every pane. If it is not, the first `group` entries of `short_group` are the ids of panes that together have fewer sheets
- * of glasses that pass for one of them than there are panes in the group; later entries are untouched. If it is, the whole
- * list is untouched. A refusal leaves both lists untouched; each needs an entry for every pane, or the answer is number 9. */
+ * and a pane with 0 has no passing glass with a sheet to spare. `placed` counts the entries that are not 0. It is `wanted`
+ * exactly when some way exists to serve every pane.
+ *
+ * If it is, `group` is 0 and `short_group` is untouched. If it is not, the first `group` entries of `short_group` are ids of
+ * panes, each once, that show why: the stocks of all glasses that pass for at least one of these panes, each glass counted
+ * once, add up to less than `group`. Later entries are untouched.
+ *
+ * Which passing glass a pane has, which panes are placed when not all can be, and which group is listed, may change from one
+ * version to the next. A refusal leaves both lists untouched; each list needs an entry for every pane, or the answer is
+ * number 9. */
 bordavina_place_result bordavina_place(const uint8_t *file, size_t file_length,
                                        uint32_t *answers, size_t answers_length,
                                        uint32_t *short_group, size_t short_group_length);
 
-/* Writes what the program canopy prints of a file to the front of `text`, and returns how many bytes that is. It is not ended
- * by a 0; later bytes are untouched. */
+/* Writes what the program canopy prints of a file to the front of `text`, and returns how many bytes that is: a line for each
+ * pane (its id, the id of its glass or 0), a line with placed and wanted and, where they differ, a line `short` with the ids
+ * of the group; or the line `refused`, number, offset. The text is never cut. No 0 is put behind it; later bytes are
+ * untouched. */
 size_t bordavina_report(const uint8_t *file, size_t file_length, uint8_t text[BORDAVINA_TEXT_SIZE]);
 
 #ifdef __cplusplus
