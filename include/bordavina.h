@@ -2,7 +2,7 @@
  *
  * Every call takes the bytes of a job file, asks nothing of them, keeps no state and may be made by several threads at once.
  * The calls allocate nothing, and read and write no memory but what they are lent. A pointer may be null where its length
- * is 0. Lent lists do not overlap one another or the file.
+ * is 0. Lent lists do not overlap one another or the file. The library is for x86-64.
  *
  * Numbers of refusals (0: none), with the offset where the cause was found, counted in bytes from the start of the file:
  *

@@ -14,8 +14,8 @@ use text::write_refusal;
 ghost use Rattle.job_file.specs.File.{outcomeOf};
 ghost use Rattle.report.specs.Promise.{Reported};
 
-// Writes the text for a file to the front of a buffer, and answers how many bytes it has. The longest text is of 256 panes
-// that are all in the short group, and has 3,851 bytes at most.
+// Writes the text for a file to the front of a buffer, and answers how many bytes it has. The longest text, of 256 panes that
+// are all in the short group, has 3,851.
 pub fn report(file: &[u8], text: &mut [u8; 4096]) -> usize
     ensures { λ r. ⌜ Reported (outcomeOf (now (file .entry))) (now (text .entry)) (now (text .exit)) r ⌝ }
 {
