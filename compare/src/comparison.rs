@@ -12,11 +12,6 @@ use crate::refusal::{Refusal, SHORT_LIST};
 use crate::roof::Roof;
 use crate::text::check_text;
 
-/// Each verdict makes the library read the file anew. Of a file with more pairs than this, so many
-/// drawn pairs are compared, and of one such file in `ALL_PAIRS_EVERY` all pairs.
-const MOST_PAIRS: usize = 2_000;
-const ALL_PAIRS_EVERY: usize = 50;
-
 const ANSWER_MARK: u32 = 0xa000_0000;
 const GROUP_MARK: u32 = 0xb000_0000;
 const TEXT_MARK: u8 = 0xee;
@@ -24,15 +19,8 @@ const TEXT_MARK: u8 = 0xee;
 pub const TEXT_WITHIN: &str = "a text lies within its buffer";
 pub const TEXT_LEFT: &str = "bytes beyond the text are untouched";
 
-/// Which pairs of a pane and a glass to compare.
-#[derive(Clone, Copy, PartialEq, Eq)]
-pub enum Pairs {
-    All,
-    SampledIfMany,
-}
-
 /// Compares all four calls on a file.
-pub fn compare<L: Library>(library: &L, file: &[u8], pairs: Pairs, random: &mut Random) -> Outcome {
+pub fn compare<L: Library>(library: &L, file: &[u8], random: &mut Random) -> Outcome {
     let case = Case {
         library,
         file,
@@ -40,7 +28,7 @@ pub fn compare<L: Library>(library: &L, file: &[u8], pairs: Pairs, random: &mut 
     };
     let mut outcome = Outcome::default();
     case.check(&mut outcome);
-    case.known_ids(pairs, random, &mut outcome);
+    case.known_ids(&mut outcome);
     case.other_ids(random, &mut outcome);
     case.places(random, &mut outcome);
     case.report(&mut outcome);
@@ -75,26 +63,14 @@ impl<L: Library> Case<'_, L> {
         }
     }
 
-    /// Verdicts on pairs of a pane and a glass of the file.
-    fn known_ids(&self, pairs: Pairs, random: &mut Random, outcome: &mut Outcome) {
+    /// Verdicts on every pair of a pane and a glass of the file.
+    fn known_ids(&self, outcome: &mut Outcome) {
         let Ok(roof) = &self.expected else {
             return;
         };
-        let (panes, glasses) = (roof.job.panes(), roof.job.glasses());
-        let mut verdict = |pane: usize, glass: usize| {
-            let (pane_id, glass_id) = (panes[pane].id.into(), glasses[glass].id.into());
-            self.verdict(pane_id, glass_id, Ok(roof.clauses[pane][glass]), outcome);
-        };
-        let count = panes.len() * glasses.len();
-        if pairs == Pairs::All || count <= MOST_PAIRS || random.one_in(ALL_PAIRS_EVERY) {
-            for pane in 0..panes.len() {
-                for glass in 0..glasses.len() {
-                    verdict(pane, glass);
-                }
-            }
-        } else {
-            for _ in 0..MOST_PAIRS {
-                verdict(random.below(panes.len()), random.below(glasses.len()));
+        for (pane, clauses) in roof.job.panes().iter().zip(&roof.clauses) {
+            for (glass, &clause) in roof.job.glasses().iter().zip(clauses) {
+                self.verdict(pane.id.into(), glass.id.into(), Ok(clause), outcome);
             }
         }
     }

@@ -2,7 +2,7 @@
 
 use crate::library::Bordavina;
 use crate::program::Canopy;
-use compare::comparison::{compare, Pairs};
+use compare::comparison::compare;
 use compare::generator::{generate, Kind};
 use compare::outcome::Outcome;
 use compare::random::Random;
@@ -81,7 +81,7 @@ impl Runner {
             }
             let mut random = Random::new(self.seed, index);
             let (kind, file) = generate(&mut random);
-            let mut outcome = compare(&Bordavina, &file, Pairs::SampledIfMany, &mut random);
+            let mut outcome = compare(&Bordavina, &file, &mut random);
             if index.is_multiple_of(PROGRAM_EVERY) {
                 self.canopy.compare(&file, &mut outcome);
             }

@@ -1,7 +1,7 @@
 //! The generator, and the max flow on its files.
 
 use crate::reference::Reference;
-use compare::comparison::{compare, Pairs};
+use compare::comparison::compare;
 use compare::flow::most_served;
 use compare::generator::{generate, Kind};
 use compare::random::Random;
@@ -41,7 +41,7 @@ fn every_case_is_generated() {
     for index in 0..2_000 {
         let mut random = Random::new(1, index);
         let (kind, file) = generate(&mut random);
-        let outcome = compare(&Reference, &file, Pairs::SampledIfMany, &mut random);
+        let outcome = compare(&Reference, &file, &mut random);
         assert_eq!(outcome.finding_count, 0, "{index}: {:?}", outcome.findings);
         tally.add(&outcome.tally);
         tally.kinds[kind as usize] += 1;

@@ -3,7 +3,7 @@
 use crate::jobs::{EXAMPLE_J, SHORT_JOB};
 use crate::reference::Reference;
 use compare::calls::{CheckAnswer, Library, PlaceAnswer, VerdictAnswer, TEXT_SIZE};
-use compare::comparison::{compare, Pairs, TEXT_LEFT, TEXT_WITHIN};
+use compare::comparison::{compare, TEXT_LEFT, TEXT_WITHIN};
 use compare::place_call::{ACCEPTED, ANSWERS_LEFT, GROUP_LEFT, REFUSED};
 use compare::random::Random;
 use compare::refusal::{NO_GLASS, NO_PANE, SHORT_LIST};
@@ -53,7 +53,7 @@ impl Library for Altered {
 
 /// Whether a comparison of the file finds what was expected to be this, in a call of this name.
 fn found(library: &Altered, file: &[u8], call: &str, expected: &str) -> bool {
-    let outcome = compare(library, file, Pairs::All, &mut Random::new(1, 1));
+    let outcome = compare(library, file, &mut Random::new(1, 1));
     assert!(outcome.finding_count >= outcome.findings.len());
     let mut findings = outcome.findings.iter();
     findings.any(|finding| finding.call.starts_with(call) && finding.expected.contains(expected))
@@ -68,12 +68,7 @@ fn unaltered_answers() {
         b"T 00000 00000\n",
         b"GT 00000 00001\n",
     ] {
-        let outcome = compare(
-            &Altered::default(),
-            file,
-            Pairs::All,
-            &mut Random::new(1, 1),
-        );
+        let outcome = compare(&Altered::default(), file, &mut Random::new(1, 1));
         assert_eq!(outcome.finding_count, 0, "{:?}", outcome.findings);
     }
 }
