@@ -8,9 +8,10 @@ mod comparison;
 mod dice;
 mod growth;
 mod job_text;
+#[allow(unsafe_code)]
+#[path = "../../include/bordavina.rs"]
 mod library;
 mod place;
-mod results;
 mod row;
 mod safe;
 mod search;

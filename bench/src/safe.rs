@@ -5,8 +5,8 @@ use compare::clauses;
 use compare::reader::read;
 use compare::refusal::Refusal;
 
+use crate::library::{CheckResult, PlaceResult, VerdictResult};
 use crate::place;
-use crate::results::{CheckResult, PlaceResult, VerdictResult};
 
 pub fn check(file: &[u8]) -> CheckResult {
     match read(file) {

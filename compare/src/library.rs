@@ -1,4 +1,5 @@
-//! The proved library through its C interface, `include/bordavina.h`. No other module has unsafe
+//! The proved library through its C interface, `include/bordavina.h`, declared here and not taken
+//! from `include/bordavina.rs`, so that empty lists go as null pointers. No other module has unsafe
 //! code.
 
 use compare::calls::{CheckAnswer, Library, PlaceAnswer, VerdictAnswer, TEXT_SIZE};

@@ -2,66 +2,8 @@
 //! job file, checks it, asks for each pane and glass whether the glass passes, and places. Standard output has the lines of
 //! canopy; standard error has which clause stands against which glass.
 
-/// The calls of include/bordavina.h, behind safe functions: a slice goes as its pointer and its length, and no call keeps either.
-mod bordavina {
-    #[repr(C)]
-    pub struct CheckResult {
-        pub number: usize,
-        pub offset: usize,
-        pub glasses: usize,
-        pub panes: usize,
-    }
-
-    #[repr(C)]
-    pub struct VerdictResult {
-        pub number: usize,
-        pub offset: usize,
-        pub clause: usize,
-    }
-
-    #[repr(C)]
-    pub struct PlaceResult {
-        pub number: usize,
-        pub offset: usize,
-        pub wanted: usize,
-        pub placed: usize,
-        pub group: usize,
-    }
-
-    extern "C" {
-        fn bordavina_check(file: *const u8, file_length: usize) -> CheckResult;
-        fn bordavina_verdict(file: *const u8, file_length: usize, pane: u32, glass: u32) -> VerdictResult;
-        fn bordavina_place(
-            file: *const u8,
-            file_length: usize,
-            answers: *mut u32,
-            answers_length: usize,
-            short_group: *mut u32,
-            short_group_length: usize,
-        ) -> PlaceResult;
-    }
-
-    pub fn check(file: &[u8]) -> CheckResult {
-        unsafe { bordavina_check(file.as_ptr(), file.len()) }
-    }
-
-    pub fn verdict(file: &[u8], pane: u32, glass: u32) -> VerdictResult {
-        unsafe { bordavina_verdict(file.as_ptr(), file.len(), pane, glass) }
-    }
-
-    pub fn place(file: &[u8], answers: &mut [u32], short_group: &mut [u32]) -> PlaceResult {
-        unsafe {
-            bordavina_place(
-                file.as_ptr(),
-                file.len(),
-                answers.as_mut_ptr(),
-                answers.len(),
-                short_group.as_mut_ptr(),
-                short_group.len(),
-            )
-        }
-    }
-}
+#[path = "../../include/bordavina.rs"]
+mod bordavina;
 
 /// id, kind, thickness, sheet w and h, span constants for two edges and for four, stock
 const GLASSES: [[u32; 8]; 2] = [
@@ -97,14 +39,15 @@ fn main() {
         println!("refused {} {}", checked.number, checked.offset);
         std::process::exit(1);
     }
-    assert_eq!((checked.glasses, checked.panes), (GLASSES.len(), PANES.len()));
 
     for pane in PANES {
         for glass in GLASSES {
             let verdict = bordavina::verdict(file, pane[0], glass[0]);
-            assert_eq!((verdict.number, verdict.offset), (0, 0));
             if verdict.clause != 0 {
-                eprintln!("pane {}, glass {}: clause {} fails", pane[0], glass[0], verdict.clause);
+                eprintln!(
+                    "pane {}, glass {}: clause {} fails",
+                    pane[0], glass[0], verdict.clause
+                );
             }
         }
     }
