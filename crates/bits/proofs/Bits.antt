@@ -2,7 +2,6 @@
 -- go through the digits from the lowest.
 --     has-none            no bit of 0 is set
 --     has-and, has-or     the bits that both of two words have; that one of them has
---     has-not             the bits that a word has not, of k
 --     has-minus           the bits of a word that another has not
 --     has-one             the word of one bit
 --     first-has           the digit above the trailing zeros is a bit of a word that is not 0
@@ -61,7 +60,7 @@ module _ (a b i : ℕ) where
       (on-digit (λ d. eqb (bitOr 1 d) 1 ≡ true) refl refl (b / 2 ^ i))
       (a / 2 ^ i))
 
-pub has-not : (k a i : ℕ) → a < 2 ^ k → i < k → has (2 ^ k - 1 - a) i ≡ not (has a i)
+has-not : (k a i : ℕ) → a < 2 ^ k → i < k → has (2 ^ k - 1 - a) i ≡ not (has a i)
 has-not zero a i l h = absurd (omega arith)
 has-not (suc k) a zero l h =
     let lowest : (2 ^ suc k - 1 - a) % 2 ≡ 1 - a % 2 = omega (arith, pow-suc 2 k) in
