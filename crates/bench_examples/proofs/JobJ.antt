@@ -10,8 +10,8 @@ use mathlib.Core.List.{List, [], _∷_}
 use native.Mathlib.Omega.{arith}
 use lib.Dec.{eqb}
 use lib.ListN.{getD}
-use Rattle.job_line.specs.Bytes.{if_then_else_}
-use Rattle.job_part.proofs.Kept.{clash}
+use Rattle.basics.specs.Choice.{if_then_else_}
+use Rattle.basics.proofs.Tests.{clash}
 use Rattle.job_grammar.specs.Examples.{glassesJ, panesJ}
 use Rattle.span_table.specs.Spans.{spans}
 use Rattle.clauses.specs.Verdict.{verdictOf}

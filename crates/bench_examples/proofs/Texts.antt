@@ -1,21 +1,16 @@
 -- The texts of the examples: what is known of each call settles the text, which is then computed.
 --     texts    (c), (h), (i), (j)
 use Prim.Native.Nat.{ℕ}
-use mathlib.Core.Path.{_≡_, ap, sym, _∙_}
+use mathlib.Core.Path.{_≡_, _∙_}
 use mathlib.Core.List.{List, [], _++_}
-use native.Mathlib.Omega.{arith}
-use lib.ListN.{getD}
-use lib.Seq.{getD-take}
 use Rattle.job_line.specs.WrittenNumber.{writtenDigits, digitCount, writtenNumber, writtenNumbers}
 use Rattle.job_file.specs.File.{Outcome, accepted, refused, outcomeOf}
 use Rattle.job_grammar.specs.Examples.{bytesOf, pane3001, jobH, glassesJ, panesJ}
 use Rattle.job_grammar.proofs.Examples.{too-long, nothing-wanted, thirteen-bytes, job-read}
-use Rattle.placing.specs.Placing.{nonzero}
 use Rattle.report.specs.Text.{paneLines, placingText, refusalText}
 use Rattle.report.specs.Promise.{TextOf, TextOfPlacing}
 use Rattle.bench_examples.specs.Texts.{Texts}
-use Rattle.bench_examples.proofs.Examples.{example-j}
-use Rattle.bench_examples.proofs.JobJ.{full-placing}
+use Rattle.bench_examples.proofs.Examples.{glazing-h, glazing-j}
 
 -- A text of a file, by what the file says.
 refused-text : (o : Outcome) (number : ℕ) (text : List ℕ) → o ≡ refused number 0 → TextOf o text → text ≡ refusalText number 0
@@ -25,17 +20,12 @@ placed-text : (o : Outcome) (text : List ℕ) → o ≡ accepted [] [] → TextO
 placed-text o text is t = rw is at t
 
 text-h : (text : List ℕ) → TextOfPlacing [] [] text → text ≡ bytesOf "0 0\n"
-unfolding nonzero placingText paneLines writtenNumber writtenNumbers writtenDigits digitCount
-text-h text t = t .is-text ∙ rw (t .glazed .placed-is)
+unfolding placingText paneLines writtenNumber writtenNumbers writtenDigits digitCount
+text-h text t = t .is-text ∙ rw (glazing-h (t .ids) (t .group) (t .placed) (t .glazing) .0)
 
 text-j : (text : List ℕ) → TextOfPlacing glassesJ panesJ text → text ≡ bytesOf "1 7\n" ++ bytesOf "2 9\n" ++ bytesOf "2 2\n"
 unfolding placingText paneLines writtenNumber writtenNumbers writtenDigits digitCount
-text-j text t =
-    let answers = t .given .answers-after in
-    let given = example-j (t .given) (t .glazed) .answers in
-    let first : getD answers 0 0 ≡ 7 = sym (getD-take 2 answers 0 0 (omega arith)) ∙ ap (λ (l : List ℕ). getD l 0 0) given in
-    let second : getD answers 1 0 ≡ 9 = sym (getD-take 2 answers 1 0 (omega arith)) ∙ ap (λ (l : List ℕ). getD l 1 0) given in
-    t .is-text ∙ rw (t .glazed .all-placeable full-placing, first, second)
+text-j text t = let is = glazing-j (t .ids) (t .group) (t .placed) (t .glazing) in t .is-text ∙ rw (is .0, is .1)
 
 pub texts : Texts
 unfolding refusalText writtenNumber writtenNumbers writtenDigits digitCount

@@ -4,6 +4,7 @@ use Prim.Native.Nat.{ℕ, _≤_}
 use mathlib.Core.Path.{_≡_}
 use mathlib.Core.List.{List, [], _∷_}
 use lib.ListN.{length, take}
+use Rattle.causes.specs.declared.Cause.the-variants.{FileLength, TooLong}
 use Rattle.job_file.specs.File.{refused, outcomeOf}
 use Rattle.job_grammar.specs.Examples.{pane3001, jobH, jobJ}
 use Rattle.clauses.specs.Examples as clauses
@@ -12,7 +13,7 @@ use Rattle.placing.specs.Promise.{counts, Call, Promised}
 -- "(c) 1000 by 2000: AR=2; by 2001: AR=3; by 3000: AR=3; by 3001: number 7."
 pub record ExampleC : Type 0 where
   pub columns : clauses.ExampleC
-  pub by-3001 : outcomeOf pane3001 ≡ refused 7 0
+  pub by-3001 : outcomeOf pane3001 ≡ refused TooLong 0
 
 -- "(h) `T 00000 00000` alone: placed 0, wanted 0."
 pub record ExampleH : Type 0 where
@@ -20,7 +21,7 @@ pub record ExampleH : Type 0 where
 
 -- "(i) 13 bytes: number 1."
 pub record ExampleI : Type 0 where
-  pub too-short : (file : List ℕ) → length file ≡ 13 → outcomeOf file ≡ refused 1 0
+  pub too-short : (file : List ℕ) → length file ≡ 13 → outcomeOf file ≡ refused FileLength 0
 
 -- "(j) the job above": the answers 7 and 9 and the counts 2 and 2, since no other keeps the promise. The lent lists have room for
 -- the two panes; else the call is refused with number 9.

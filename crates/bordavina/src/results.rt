@@ -2,7 +2,7 @@
 use clauses::Answer;
 use clauses::Verdict;
 use job_file::Checked;
-use job_part::number_of;
+use causes::number_of;
 use placing::Placed;
 ghost use mathlib.Core.Path.{_≡_};
 ghost use Rattle.job_file.specs.Answer.{says as checkSays};

@@ -3,7 +3,8 @@ use Prim.Native.Nat.{ℕ, _+_}
 use mathlib.Core.List.{List, [], _∷_}
 use lib.Dec.{eqb}
 use lib.ListN.{take}
-use Rattle.job_line.specs.Bytes.{if_then_else_, newline}
+use Rattle.basics.specs.Choice.{if_then_else_}
+use Rattle.job_line.specs.Bytes.{newline}
 
 unfoldable pub newlines : List ℕ → ℕ
 newlines [] = 0

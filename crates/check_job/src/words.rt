@@ -1,5 +1,5 @@
 // A refusal in plain words: a line on standard error with the place in the file, the cause and what to do about it.
-use job_part::Cause;
+use causes::Cause;
 use libc::STDERR_FILENO;
 
 pub(crate) fn explain(cause: Cause, offset: u64, line: u64) {

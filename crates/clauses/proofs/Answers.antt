@@ -6,6 +6,7 @@ use Prim.Native.Nat.{ℕ}
 use mathlib.Core.Path.{_≡_, subst}
 use mathlib.Core.List.{List}
 use lib.ListN.{take}
+use Rattle.causes.specs.declared.Cause.the-variants.{NoPane, NoGlass}
 use Rattle.job_glass.specs.GlassLine.{blankGlass}
 use Rattle.job_glass.specs.Values.{GlassValues}
 use Rattle.job_glass.specs.declared.Glass.{Glass}
@@ -40,13 +41,13 @@ module _ {file : List ℕ} {r : Reading} {glasses panes : ℕ} (job : Job file r
       subst GlassValues (s .is) (glass-values (job .lists .rules) (s .place) (s .within))
 
   module _ (pane glass : ℕ) where
-    pub no-pane : thePane pane ≡ missing → answerOf (outcomeOf file) pane glass ≡ refuses 10 0
+    pub no-pane : thePane pane ≡ missing → answerOf (outcomeOf file) pane glass ≡ refuses NoPane 0
     unfolding answerOf
     no-pane e = rw (job .outcome, answerOf, e)
 
     pub no-glass :
         (p : Pane) →
-        thePane pane ≡ entry p → theGlass glass ≡ missing → answerOf (outcomeOf file) pane glass ≡ refuses 11 0
+        thePane pane ≡ entry p → theGlass glass ≡ missing → answerOf (outcomeOf file) pane glass ≡ refuses NoGlass 0
     unfolding answerOf
     no-glass p e f = rw (job .outcome, answerOf, e, f)
 

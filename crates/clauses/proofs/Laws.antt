@@ -7,8 +7,8 @@ use native.Mathlib.Nat.{mul-le-mul, le-trans}
 use native.Mathlib.Omega.{arith}
 use lib.Dec.{eqb}
 use borrow.Author.Tests.{ltb-false, le-ltb}
-use Rattle.job_line.specs.Bytes.{if_then_else_}
-use Rattle.job_part.proofs.Kept.{clash}
+use Rattle.basics.specs.Choice.{if_then_else_}
+use Rattle.basics.proofs.Tests.{clash}
 use Rattle.job_glass.specs.declared.Glass.{Glass}
 use Rattle.job_pane.specs.declared.Pane.{Pane}
 use Rattle.point_load.specs.PointLoad.{pointLoadFails}

@@ -11,8 +11,8 @@ use native.Mathlib.Omega.{arith}
 use lib.Dec.{eqb}
 use lib.ListN.{length, getD, take}
 use borrow.Author.Tests.{eq-eqb, ne-eqb}
-use Rattle.job_line.specs.Bytes.{if_then_else_}
-use Rattle.job_part.proofs.Kept.{clash}
+use Rattle.basics.specs.Choice.{if_then_else_}
+use Rattle.basics.proofs.Tests.{clash}
 use Rattle.clauses.specs.Lookup.{entry, missing, withId}
 
 module _ {A : Type 0} (idOf : A → ℕ) (n : ℕ) where

@@ -1,6 +1,7 @@
 -- Document 01, "What each cause gives": the number and the values of each case of the answer to the call `verdict`.
 use Prim.Native.Nat.{ℕ}
-use Rattle.job_part.specs.Cause.{numberOf}
+use Rattle.causes.specs.declared.Cause.the-variants.{NoPane, NoGlass}
+use Rattle.causes.specs.Cause.{numberOf}
 use Rattle.job_file.specs.File.{Outcome, accepted, refused}
 use Rattle.clauses.specs.Verdict.{verdictOf}
 use Rattle.clauses.specs.Lookup.{entry, missing, withId}
@@ -24,18 +25,18 @@ verdictSays (Fails clause) = fails clause
 abbrev pub says : Answer → Says
 says (Judged v) = verdictSays v
 says (Refused cause offset) = refuses (numberOf cause) offset
-says NoPane = refuses 10 0
-says NoGlass = refuses 11 0
+says NoPane = refuses NoPane 0
+says NoGlass = refuses NoGlass 0
 
 -- The answer that a question should have: the file's own refusal, "10 and then 11", or the verdict.
 unfoldable pub answerOf : Outcome → ℕ → ℕ → Says
 answerOf (refused cause offset) pane glass = refuses cause offset
 answerOf (accepted glasses panes) pane glass =
     elim (withId (λ p. p .id) pane panes) [
-      | missing ↦ refuses 10 0
+      | missing ↦ refuses NoPane 0
       | entry p ↦
           elim (withId (λ g. g .id) glass glasses) [
-            | missing ↦ refuses 11 0
+            | missing ↦ refuses NoGlass 0
             | entry g ↦ verdictSays (verdictOf p g)
           ]
     ]

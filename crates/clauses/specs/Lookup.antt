@@ -2,7 +2,7 @@
 use Prim.Native.Nat.{ℕ}
 use mathlib.Core.List.{List, [], _∷_}
 use lib.Dec.{eqb}
-use Rattle.job_line.specs.Bytes.{if_then_else_}
+use Rattle.basics.specs.Choice.{if_then_else_}
 use Rattle.job_glass.specs.declared.Glass.{Glass}
 use Rattle.job_pane.specs.declared.Pane.{Pane}
 use Rattle.clauses.specs.declared.lookup.PaneFound as panes

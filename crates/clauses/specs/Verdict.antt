@@ -1,5 +1,5 @@
 -- Document 01, "The four clauses": "The verdict is either "passes" or "fails" with the number of the first clause that fails."
-use Rattle.job_line.specs.Bytes.{if_then_else_}
+use Rattle.basics.specs.Choice.{if_then_else_}
 use Rattle.job_glass.specs.declared.Glass.{Glass}
 use Rattle.job_pane.specs.declared.Pane.{Pane}
 use Rattle.point_load.specs.PointLoad.{pointLoadFails}

@@ -9,7 +9,7 @@ mod size;
 
 use job_file::Checked;
 use job_file::read_job;
-use job_part::Cause;
+use causes::Cause;
 pub use judging::LoadedPane;
 pub use judging::Verdict;
 pub use judging::judge;

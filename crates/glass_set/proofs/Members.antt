@@ -16,7 +16,7 @@ use borrow.Author.Tests.{eqb-true, eqb-false, not-true, not-false}
 use lib.Count.{trailingZeros}
 use lib.Dec.{eqb}
 use Rattle.ranges.specs.Ranges.{one}
-use Rattle.ranges.proofs.Tests.{differ}
+use Rattle.basics.proofs.Tests.{differ}
 use Rattle.ranges.proofs.Sums.{sum-le, sum-less}
 use Rattle.ranges.proofs.Counts.{one-le}
 use Rattle.ranges.proofs.All.{all-at, all-of, all-not}

@@ -13,7 +13,8 @@ use mathlib.Core.List.{List}
 use lib.Dec.{leb, ltb}
 use lib.ListN.{length, getD, drop}
 use borrow.Author.Tests.{ltb-false, leb-true, le-ltb, le-leb}
-use Rattle.job_line.specs.Bytes.{if_then_else_}
+use Rattle.causes.specs.declared.Cause.the-variants.{NoTrailer, PartOffsets}
+use Rattle.basics.specs.Choice.{if_then_else_}
 use Rattle.job_part.specs.Part.{Lines, whole, stopped, partLines}
 use Rattle.job_glass.specs.GlassLine.{glassForm, allowedGlass}
 use Rattle.job_pane.specs.PaneLine.{paneForm, allowedPane, tooLongPane}
@@ -23,7 +24,7 @@ use Rattle.job_glass.specs.Values.{GlassValues}
 use Rattle.job_pane.specs.Values.{PaneValues}
 use Rattle.job_glass.specs.declared.Glass.{Glass}
 use Rattle.job_pane.specs.declared.Pane.{Pane}
-use Rattle.job_part.proofs.Kept.{clash}
+use Rattle.basics.proofs.Tests.{clash}
 use Rattle.job_part.proofs.Lists.{every-at}
 use Rattle.job_part.proofs.Laws.{part-rules, ids-at}
 use Rattle.job_glass.proofs.Values.{allowed-glass}
@@ -97,8 +98,8 @@ module _ (file : List ℕ) (gs : List Glass) (ps : List Pane) where
             | offsets glass pane ↦
                 if leb glass pane && leb pane (length file - 14)
                 then partsOutcome file glass pane (length file - 14)
-                else refused 3 (length file - 14)
-            | noTrailer ↦ refused 2 (length file - 14)
+                else refused PartOffsets (length file - 14)
+            | noTrailer ↦ refused NoTrailer (length file - 14)
           ] ≡ accepted gs ps →
           Accepted file gs ps
       go short long (offsets glass pane) q f =

@@ -12,6 +12,7 @@ use native.Mathlib.Omega.{arith}
 use lib.ListN.{length, take, drop, length-take, length-drop, take-append-drop}
 use lib.Seq.{take-all, length-take-le}
 use borrow.Author.Tests.{lt-ltb, le-ltb, le-leb, lt-leb}
+use Rattle.causes.specs.declared.Cause.the-variants.{FileLength, NoTrailer, PartOffsets}
 use Rattle.job_part.specs.Part.{Lines, whole, stopped, partLines}
 use Rattle.job_glass.specs.GlassLine.{glassForm}
 use Rattle.job_pane.specs.PaneLine.{paneForm}
@@ -26,12 +27,12 @@ use Rattle.job_pane.specs.declared.Pane.{Pane}
 use Rattle.job_file.specs.declared.Checked.the-variants.{Accepted}
 
 module _ (file : List ℕ) (glass pane end : ℕ) where
-  pub parts-glass : (cause at : ℕ) → partLines glassForm pane (part file glass pane) ≡ stopped cause at → partsOutcome file glass pane end ≡ refused cause at
+  pub parts-glass : (cause : Cause) (at : ℕ) → partLines glassForm pane (part file glass pane) ≡ stopped cause at → partsOutcome file glass pane end ≡ refused cause at
   unfolding partsOutcome
   parts-glass cause at stop = rw (stop, partsOutcome)
 
   module _ (gs : List Glass) (first : partLines glassForm pane (part file glass pane) ≡ whole gs) where
-    pub parts-pane : (cause at : ℕ) → partLines paneForm end (part file pane end) ≡ stopped cause at → partsOutcome file glass pane end ≡ refused cause at
+    pub parts-pane : (cause : Cause) (at : ℕ) → partLines paneForm end (part file pane end) ≡ stopped cause at → partsOutcome file glass pane end ≡ refused cause at
     unfolding partsOutcome
     parts-pane cause at stop = rw (first, partsOutcome) (rw stop)
 
@@ -46,26 +47,26 @@ pub tail-part : (file : List ℕ) (from : ℕ) → take (length file - from) (dr
 tail-part file from = take-all (length file - from) (drop from file) (simp length-drop (omega arith))
 
 module _ (file : List ℕ) where
-  pub file-short : length file < 14 → outcomeOf file ≡ refused 1 0
+  pub file-short : length file < 14 → outcomeOf file ≡ refused FileLength 0
   unfolding outcomeOf
   file-short short = rw (lt-ltb (length file) 14 short)
 
   module _ (long : 14 ≤ length file) where
-    pub file-over : 65535 < length file → outcomeOf file ≡ refused 1 0
+    pub file-over : 65535 < length file → outcomeOf file ≡ refused FileLength 0
     unfolding outcomeOf
     file-over over = rw (le-ltb (length file) 14 long, lt-ltb 65535 (length file) over)
 
     module _ (fits : length file ≤ 65535) where
-      pub file-trailer : trailer (drop (length file - 14) file) ≡ noTrailer → outcomeOf file ≡ refused 2 (length file - 14)
+      pub file-trailer : trailer (drop (length file - 14) file) ≡ noTrailer → outcomeOf file ≡ refused NoTrailer (length file - 14)
       unfolding outcomeOf
       file-trailer none = rw (le-ltb (length file) 14 long, le-ltb 65535 (length file) fits, none)
 
       module _ (glass pane : ℕ) (read : trailer (drop (length file - 14) file) ≡ offsets glass pane) where
-        pub file-order : pane < glass → outcomeOf file ≡ refused 3 (length file - 14)
+        pub file-order : pane < glass → outcomeOf file ≡ refused PartOffsets (length file - 14)
         unfolding outcomeOf
         file-order turned = rw (le-ltb (length file) 14 long, le-ltb 65535 (length file) fits, read) (rw (lt-leb glass pane turned))
 
-        pub file-beyond : glass ≤ pane → length file - 14 < pane → outcomeOf file ≡ refused 3 (length file - 14)
+        pub file-beyond : glass ≤ pane → length file - 14 < pane → outcomeOf file ≡ refused PartOffsets (length file - 14)
         unfolding outcomeOf
         file-beyond order beyond =
             rw (le-ltb (length file) 14 long, le-ltb 65535 (length file) fits, read)

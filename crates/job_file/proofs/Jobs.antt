@@ -7,10 +7,10 @@ use mathlib.Core.Path.{_≡_, refl, ap, sym, _∙_}
 use mathlib.Core.List.{List}
 use lib.ListN.{length, take}
 use lib.Seq.{take-at}
-use Rattle.job_part.specs.Cause.{numberOf}
+use Rattle.causes.specs.Cause.{numberOf}
 use Rattle.job_part.specs.Arrays.{padded}
-use Rattle.job_part.specs.declared.Cause.{Cause}
-use Rattle.job_part.proofs.Kept.{clash}
+use Rattle.causes.specs.declared.Cause.{Cause}
+use Rattle.basics.proofs.Tests.{clash}
 use Rattle.job_file.specs.File.{Outcome, accepted, refused, outcomeOf}
 use Rattle.job_file.specs.Answer.{refuses, says, answerOf, Reads}
 use Rattle.job_file.specs.Rules.{AtFront}
@@ -46,9 +46,9 @@ job-read file r n m reads case = go (outcomeOf file) refl reads
         }
     go (refused cause at) is reads = let answer = ap says (sym case) ∙ reads .answer in clash (cc)
 
-pub refusal-read : (file : List ℕ) (r : Reading) (cause : Cause) (offset : ℕ) → Reads (outcomeOf file) r → r .checked ≡ Refused cause offset → outcomeOf file ≡ refused (numberOf cause) offset
+pub refusal-read : (file : List ℕ) (r : Reading) (cause : Cause) (offset : ℕ) → Reads (outcomeOf file) r → r .checked ≡ Refused cause offset → outcomeOf file ≡ refused cause offset
 refusal-read file r cause offset reads case = go (outcomeOf file) (ap says (sym case) ∙ reads .answer)
   where
-    go : (o : Outcome) → refuses (numberOf cause) offset ≡ answerOf o → o ≡ refused (numberOf cause) offset
+    go : (o : Outcome) → refuses cause offset ≡ answerOf o → o ≡ refused cause offset
     go (accepted gs ps) e = clash (cc)
     go (refused n at) e = cc

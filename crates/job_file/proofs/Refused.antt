@@ -8,9 +8,12 @@ use native.Mathlib.Omega.{arith}
 use lib.Dec.{leb, ltb}
 use lib.ListN.{length, drop}
 use borrow.Author.Tests.{leb-true, ltb-false}
-use Rattle.job_line.specs.Bytes.{if_then_else_, Found, found, nothing}
+use Rattle.causes.specs.declared.Cause.the-variants.{FileLength, NoTrailer, PartOffsets, LineForm, NumberValue, RepeatedId, TooLong}
+use Rattle.basics.specs.Choice.{if_then_else_}
+use Rattle.job_line.specs.Bytes.{Found, found, nothing}
 use Rattle.job_line.specs.Line.{line}
-use Rattle.job_part.specs.Part.{Form, among, Judged, taken, faulty, judgedEntry, judged, Lines, whole, stopped, lines, partLines}
+use Rattle.ids.specs.Ids.{among}
+use Rattle.job_part.specs.Part.{Form, Judged, taken, faulty, judgedEntry, judged, Lines, whole, stopped, lines, partLines}
 use Rattle.job_glass.specs.GlassLine.{glassForm}
 use Rattle.job_glass.specs.declared.Glass.{Glass}
 use Rattle.job_pane.specs.PaneLine.{paneForm}
@@ -38,7 +41,7 @@ module _ {A : Type 0} (form : Form A) where
     where
       go :
           (a m l : Bool) →
-          LineWithin (if not a then faulty 5 else if m then faulty 6 else if l then faulty 7 else taken x rest)
+          LineWithin (if not a then faulty NumberValue else if m then faulty RepeatedId else if l then faulty TooLong else taken x rest)
       go false m l = omega arith
       go true true l = omega arith
       go true false true = omega arith
@@ -53,7 +56,7 @@ module _ {A : Type 0} (form : Form A) where
           LineWithin {A = A}
           (elim f [
             | found ns rest ↦ judgedEntry form ids (form .entry ns) rest
-            | nothing ↦ faulty 4
+            | nothing ↦ faulty LineForm
           ])
       go (found ns rest) = entry-within ids (form .entry ns) rest
       go nothing = omega arith
@@ -116,7 +119,7 @@ within file = sized (ltb (length file) 14) (ltb 65535 (length file)) refl
 
     ordered :
         (glass pane : ℕ) (a b : Bool) → leb pane end ≡ b →
-        FileWithin end (if a && b then partsOutcome file glass pane end else refused 3 end)
+        FileWithin end (if a && b then partsOutcome file glass pane end else refused PartOffsets end)
     ordered glass pane true true e = parts-within file glass pane end (leb-true pane end e)
     ordered glass pane true false e = (omega arith, omega arith)
     ordered glass pane false b e = (omega arith, omega arith)
@@ -124,8 +127,8 @@ within file = sized (ltb (length file) 14) (ltb 65535 (length file)) refl
     behind : Trailer → Outcome
     behind t =
         elim t [
-          | offsets glass pane ↦ if leb glass pane && leb pane end then partsOutcome file glass pane end else refused 3 end
-          | noTrailer ↦ refused 2 end
+          | offsets glass pane ↦ if leb glass pane && leb pane end then partsOutcome file glass pane end else refused PartOffsets end
+          | noTrailer ↦ refused NoTrailer end
         ]
 
     trailed : (t : Trailer) → FileWithin end (behind t)
@@ -134,7 +137,7 @@ within file = sized (ltb (length file) 14) (ltb 65535 (length file)) refl
 
     sized :
         (a b : Bool) → ltb 65535 (length file) ≡ b →
-        FileWithin 65535 (if a || b then refused 1 0 else behind (trailer (drop end file)))
+        FileWithin 65535 (if a || b then refused FileLength 0 else behind (trailer (drop end file)))
     sized true b e = (omega arith, omega arith)
     sized false true e = (omega arith, omega arith)
     sized false false e =

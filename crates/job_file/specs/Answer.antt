@@ -4,7 +4,7 @@ use mathlib.Core.Path.{_≡_}
 use mathlib.Core.List.{List, []}
 use lib.ListN.{length}
 use Rattle.job_file.specs.File.{Outcome, accepted, refused}
-use Rattle.job_part.specs.Cause.{numberOf}
+use Rattle.causes.specs.Cause.{numberOf}
 use Rattle.job_glass.specs.GlassLine.{blankGlass}
 use Rattle.job_pane.specs.PaneLine.{blankPane}
 use Rattle.job_part.specs.Arrays.{padded}
@@ -28,7 +28,7 @@ says (Refused cause offset) = refuses (numberOf cause) offset
 -- The answer that a file should have, by its outcome.
 abbrev pub answerOf : Outcome → Answer
 answerOf (accepted glasses panes) = accepts (length glasses) (length panes)
-answerOf (refused cause offset) = refuses cause offset
+answerOf (refused cause offset) = refuses (numberOf cause) offset
 
 -- The glasses and the panes of an outcome: none of a refused file.
 abbrev pub glassesOf : Outcome → List Glass

@@ -7,7 +7,9 @@ use mathlib.Core.Bool.{_&&_, _||_}
 use mathlib.Core.List.{List}
 use lib.Dec.{leb, ltb, eqb}
 use lib.ListN.{length, take, drop}
-use Rattle.job_line.specs.Bytes.{if_then_else_, newline, space, letterT, next, after, Found, found, nothing}
+use Rattle.causes.specs.declared.Cause.the-variants.{FileLength, NoTrailer, PartOffsets}
+use Rattle.basics.specs.Choice.{if_then_else_}
+use Rattle.job_line.specs.Bytes.{newline, space, letterT, next, after, Found, found, nothing}
 use Rattle.job_line.specs.Number.{digits}
 use Rattle.job_part.specs.Part.{whole, stopped, partLines}
 use Rattle.job_glass.specs.GlassLine.{glassForm}
@@ -50,11 +52,11 @@ trailer bytes =
     ]
     else noTrailer
 
--- What a file says: its glasses and panes in file order, or the number and offset of the first cause, "1, 2, 3; then lines
+-- What a file says: its glasses and panes in file order, or the first cause and its offset, "1, 2, 3; then lines
 -- in file order".
 pub data Outcome : Type 0 where
   accepted : List Glass → List Pane → Outcome
-  refused : ℕ → ℕ → Outcome
+  refused : Cause → ℕ → Outcome
 
 -- "Each part, taken from its offset to its end".
 abbrev pub part : List ℕ → ℕ → ℕ → List ℕ
@@ -77,11 +79,11 @@ partsOutcome file glass pane end =
 unfoldable pub outcomeOf : List ℕ → Outcome
 outcomeOf file =
     let end : ℕ = length file - 14 in
-    if ltb (length file) 14 || ltb 65535 (length file) then refused 1 0
+    if ltb (length file) 14 || ltb 65535 (length file) then refused FileLength 0
     else elim (trailer (drop end file)) [
       | offsets glass pane ↦
           if leb glass pane && leb pane end
           then partsOutcome file glass pane end
-          else refused 3 end
-      | noTrailer ↦ refused 2 end
+          else refused PartOffsets end
+      | noTrailer ↦ refused NoTrailer end
     ]

@@ -7,12 +7,11 @@ use job_glass::NO_GLASS;
 use job_glass::read_glasses;
 use job_pane::NO_PANE;
 use job_pane::read_panes;
-use job_part::Cause;
+use causes::Cause;
 use job_part::PartEnd;
 ghost use Prim.Native.Nat.{_≤_};
 ghost use lib.ListN.{length};
 ghost use Rattle.job_file.specs.File.{outcomeOf, partsOutcome, refused};
-ghost use Rattle.job_part.specs.Cause.{numberOf};
 ghost use Rattle.job_file.specs.Answer.{Reads};
 
 // The glasses and the panes of a file, or the first cause against it.
@@ -74,7 +73,7 @@ fn read_parts(file: &[u8], glass: usize, pane: usize, end: usize) -> Reading
 
 // What is read of a refused file: the cause and its offset.
 fn refusal(cause: Cause, offset: usize) -> Reading
-    ensures { λ r. ⌜ Reads (refused (numberOf cause) offset) r ⌝ }
+    ensures { λ r. ⌜ Reads (refused cause offset) r ⌝ }
 {
     let glasses = [NO_GLASS; 64];
     let panes = [NO_PANE; 256];

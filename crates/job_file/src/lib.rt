@@ -8,7 +8,7 @@ mod trailer;
 pub use file::read_job;
 use job_glass::Glass;
 use job_pane::Pane;
-use job_part::Cause;
+use causes::Cause;
 ghost use mathlib.Core.Path.{_≡_};
 ghost use Rattle.job_file.specs.File.{outcomeOf};
 ghost use Rattle.job_file.specs.Answer.{says, answerOf};

@@ -3,7 +3,7 @@ use Prim.Native.Nat.{ℕ}
 use mathlib.Core.Bool.{_||_, or-assoc}
 use native.Mathlib.Omega.{arith}
 use lib.Dec.{T, eqb, eqb→eq}
-use Rattle.job_part.proofs.Tests.{and-iff, leb-iff, one-of}
+use Rattle.basics.proofs.Tests.{and-iff, leb-iff, one-of}
 use Rattle.job_glass.specs.GlassLine.{allowedGlass}
 use Rattle.job_glass.specs.Values.{GlassValues}
 use Rattle.job_glass.specs.declared.Glass.{Glass}

@@ -3,10 +3,10 @@ use crate::Glass;
 use crate::GlassPart;
 use job_line::LineEnd;
 use job_line::read_line;
-use job_part::Cause;
+use causes::Cause;
 use job_part::PartEnd;
-use job_part::is_seen;
-use job_part::mark;
+use ids::is_seen;
+use ids::mark;
 ghost use mathlib.Core.Path.{_≡_};
 ghost use mathlib.Core.List.{List};
 ghost use Prim.Native.Nat.{ℕ, _+_, _≤_};
@@ -16,7 +16,7 @@ ghost use Rattle.job_part.specs.Part.{judged, judgedEntry, partLines};
 ghost use Rattle.job_glass.specs.GlassLine.{blankGlass};
 ghost use Rattle.job_glass.specs.Steps.{GlassRead};
 ghost use Rattle.job_part.specs.Arrays.{PartRead};
-ghost use Rattle.job_part.specs.IdSets.{IdSet};
+ghost use Rattle.ids.specs.IdSets.{IdSet};
 
 // A glass line and the position behind it, or what is wrong with it.
 pub enum GlassLine {

@@ -13,7 +13,8 @@ use native.Mathlib.Nat.{pow-suc, add-suc, suc-add, mul-assoc}
 use lib.Dec.{leb}
 use lib.ListN.{length, length-append}
 use borrow.Author.Tests.{leb-true, le-leb}
-use Rattle.job_line.specs.Bytes.{if_then_else_, next, found}
+use Rattle.basics.specs.Choice.{if_then_else_}
+use Rattle.job_line.specs.Bytes.{next, found}
 use Rattle.job_line.specs.Number.{isDigit, digits}
 use Rattle.job_line.specs.WrittenNumber.{writtenDigits}
 

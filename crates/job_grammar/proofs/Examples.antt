@@ -7,9 +7,11 @@ use Prim.Native.Nat.{ℕ}
 use mathlib.Core.Path.{_≡_, refl, ap}
 use mathlib.Core.List.{List, [], _∷_}
 use lib.ListN.{length}
+use Rattle.causes.specs.declared.Cause.the-variants.{FileLength, TooLong}
 use Rattle.job_line.specs.Number.{digits, number}
 use Rattle.job_line.specs.Line.{numbers, ended, line}
-use Rattle.job_part.specs.Part.{among, judgedEntry, judged, lines, partLines}
+use Rattle.ids.specs.Ids.{among}
+use Rattle.job_part.specs.Part.{judgedEntry, judged, lines, partLines}
 use Rattle.job_file.specs.File.{fiveDigits, offset, trailerRest, trailer, Outcome, accepted, refused, partsOutcome, outcomeOf}
 use Rattle.job_file.specs.Answer.{accepts, answerOf}
 use Rattle.job_grammar.specs.Examples.{pane3000, pane3001, jobH, jobJ, glassesJ, panesJ}
@@ -28,7 +30,7 @@ pub not-too-long :
 unfolding outcome
 not-too-long = refl
 
-pub too-long : outcomeOf pane3001 ≡ refused 7 0
+pub too-long : outcomeOf pane3001 ≡ refused TooLong 0
 unfolding outcome
 too-long = refl
 
@@ -38,7 +40,7 @@ unfolding outcome
 nothing-wanted = refl
 
 -- (i)
-pub thirteen-bytes : (file : List ℕ) → length file ≡ 13 → outcomeOf file ≡ refused 1 0
+pub thirteen-bytes : (file : List ℕ) → length file ≡ 13 → outcomeOf file ≡ refused FileLength 0
 unfolding outcomeOf
 thirteen-bytes file e = rw e
 

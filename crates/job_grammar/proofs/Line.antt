@@ -12,11 +12,12 @@ use native.Mathlib.Omega.{arith}
 use lib.Dec.{leb, eqb, leb→le}
 use lib.ListN.{length}
 use borrow.Author.Tests.{eqb-true, eq-eqb}
-use Rattle.job_line.specs.Bytes.{if_then_else_, newline, space, next, after, Found, found, nothing}
+use Rattle.basics.specs.Choice.{if_then_else_}
+use Rattle.job_line.specs.Bytes.{newline, space, next, after, Found, found, nothing}
 use Rattle.job_line.specs.Number.{isDigit, number}
 use Rattle.job_line.specs.Line.{numbers, ended, line}
 use Rattle.job_part.specs.Rules.{Every}
-use Rattle.job_part.proofs.Kept.{clash}
+use Rattle.basics.proofs.Tests.{clash}
 use Rattle.job_line.specs.WrittenNumber.{writtenNumber, writtenNumbers}
 use Rattle.job_grammar.specs.Written.{writtenLine}
 use Rattle.job_grammar.proofs.Numbers.{written-number, number-read}

@@ -10,9 +10,10 @@ use native.Mathlib.Omega.{arith}
 use native.Mathlib.Nat.{pow-suc, zero-add}
 use lib.Dec.{leb, ltb, eqb}
 use borrow.Author.Tests.{leb-true, eqb-true, eqb-false, lt-ltb, le-ltb, le-leb, ne-eqb, ltb-true, ltb-false}
-use Rattle.job_line.specs.Bytes.{if_then_else_, next, found, nothing}
+use Rattle.basics.specs.Choice.{if_then_else_}
+use Rattle.job_line.specs.Bytes.{next, found, nothing}
 use Rattle.job_line.specs.Number.{isDigit, digits, number}
-use Rattle.job_part.proofs.Kept.{clash}
+use Rattle.basics.proofs.Tests.{clash}
 use Rattle.job_line.specs.WrittenNumber.{writtenDigits, digitCount, writtenNumber}
 use Rattle.job_grammar.proofs.Digits.{written-digits, no-more-digits, digits-read}
 

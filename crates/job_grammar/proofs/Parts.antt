@@ -12,8 +12,9 @@ use native.Mathlib.Nat.{le-of-suc-le-suc}
 use lib.Dec.{T}
 use lib.ListN.{length}
 use Rattle.job_part.specs.Part.{Form, whole, lines, partLines}
-use Rattle.job_part.specs.Rules.{Every, Distinct, PartRules}
-use Rattle.job_part.proofs.Lists.{distinct-new}
+use Rattle.ids.specs.Ids.{Distinct}
+use Rattle.job_part.specs.Rules.{Every, PartRules}
+use Rattle.ids.proofs.Distinct.{distinct-new}
 use Rattle.job_part.proofs.Kept.{Taken, taken-is, keep}
 use Rattle.job_grammar.specs.Written.{writtenLine, writtenPart}
 use Rattle.job_grammar.proofs.Line.{Small, written-line, line-read}

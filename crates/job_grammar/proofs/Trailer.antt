@@ -11,10 +11,11 @@ use native.Mathlib.Nat.{zero-add}
 use lib.Dec.{eqb}
 use lib.ListN.{length, length-append}
 use borrow.Author.Tests.{eqb-true, eq-eqb}
-use Rattle.job_line.specs.Bytes.{if_then_else_, newline, space, letterT, next, after, Found, found, nothing}
+use Rattle.basics.specs.Choice.{if_then_else_}
+use Rattle.job_line.specs.Bytes.{newline, space, letterT, next, after, Found, found, nothing}
 use Rattle.job_line.specs.Number.{digits}
 use Rattle.job_file.specs.File.{fiveDigits, offset, offsets, noTrailer, trailerRest, trailer}
-use Rattle.job_part.proofs.Kept.{clash}
+use Rattle.basics.proofs.Tests.{clash}
 use Rattle.job_line.specs.WrittenNumber.{writtenDigits}
 use Rattle.job_grammar.specs.Written.{writtenTrailer}
 use Rattle.job_grammar.proofs.Digits.{length-digits, written-digits, digits-read}

@@ -1,12 +1,6 @@
 -- Bytes, and how a definition takes them one after the other from the front of a list.
 use Prim.Native.Nat.{ℕ}
-use mathlib.Core.Bool.{Bool, true, false}
 use mathlib.Core.List.{List, [], _∷_}
-
-infixr 20 if_then_else_
-abbrev pub if_then_else_ : {A : Type 0} → Bool → A → A → A
-if true then x else y = x
-if false then x else y = y
 
 -- The bytes that the format names.
 abbrev pub newline : ℕ

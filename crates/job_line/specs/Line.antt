@@ -3,7 +3,8 @@
 use Prim.Native.Nat.{ℕ, zero, suc}
 use mathlib.Core.List.{List, [], _∷_, _++_}
 use lib.Dec.{eqb}
-use Rattle.job_line.specs.Bytes.{if_then_else_, newline, space, next, after, Found, found, nothing}
+use Rattle.basics.specs.Choice.{if_then_else_}
+use Rattle.job_line.specs.Bytes.{newline, space, next, after, Found, found, nothing}
 use Rattle.job_line.specs.Number.{number}
 
 -- The next `left` numbers, one space before each, behind those `before` them on the line.

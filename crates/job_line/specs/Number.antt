@@ -3,7 +3,8 @@ use Prim.Native.Nat.{ℕ, zero, suc, _+_, _-_, _*_}
 use mathlib.Core.Bool.{Bool, _&&_}
 use mathlib.Core.List.{List}
 use lib.Dec.{leb, eqb}
-use Rattle.job_line.specs.Bytes.{if_then_else_, digit0, digit9, next, after, Found, found, nothing}
+use Rattle.basics.specs.Choice.{if_then_else_}
+use Rattle.job_line.specs.Bytes.{digit0, digit9, next, after, Found, found, nothing}
 
 abbrev pub isDigit : ℕ → Bool
 isDigit b = leb digit0 b && leb b digit9

@@ -3,7 +3,8 @@
 use Prim.Native.Nat.{ℕ, zero, suc, _+_, _/_, _%_}
 use mathlib.Core.List.{List, [], _∷_, _++_}
 use lib.Dec.{ltb}
-use Rattle.job_line.specs.Bytes.{if_then_else_, space, digit0}
+use Rattle.basics.specs.Choice.{if_then_else_}
+use Rattle.job_line.specs.Bytes.{space, digit0}
 
 -- The last `count` decimal digits of a number, the most significant first.
 unfoldable pub writtenDigits : ℕ → ℕ → List ℕ

@@ -5,7 +5,7 @@ use Prim.Native.Nat.{_*_, _≤_, min, max}
 use mathlib.Core.Bool.{not}
 use native.Mathlib.Omega.{arith}
 use lib.Dec.{T, eqb, nltb→le, eqb→eq}
-use Rattle.job_part.proofs.Tests.{and-iff, leb-iff, one-of}
+use Rattle.basics.proofs.Tests.{and-iff, leb-iff, one-of}
 use Rattle.job_pane.specs.PaneLine.{allowedPane, tooLongPane}
 use Rattle.job_pane.specs.Values.{PaneValues}
 use Rattle.job_pane.specs.declared.Pane.{Pane}

@@ -5,10 +5,10 @@ use crate::sides::longer;
 use crate::sides::shorter;
 use job_line::LineEnd;
 use job_line::read_line;
-use job_part::Cause;
+use causes::Cause;
 use job_part::PartEnd;
-use job_part::is_seen;
-use job_part::mark;
+use ids::is_seen;
+use ids::mark;
 ghost use mathlib.Core.Path.{_≡_};
 ghost use mathlib.Core.List.{List};
 ghost use Prim.Native.Nat.{ℕ, _+_, _≤_};
@@ -18,7 +18,7 @@ ghost use Rattle.job_part.specs.Part.{judged, judgedEntry, partLines};
 ghost use Rattle.job_pane.specs.PaneLine.{blankPane};
 ghost use Rattle.job_pane.specs.Steps.{PaneRead};
 ghost use Rattle.job_part.specs.Arrays.{PartRead};
-ghost use Rattle.job_part.specs.IdSets.{IdSet};
+ghost use Rattle.ids.specs.IdSets.{IdSet};
 
 // A pane line and the position behind it, or what is wrong with it.
 pub enum PaneLine {

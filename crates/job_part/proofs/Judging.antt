@@ -6,20 +6,22 @@ use Prim.Native.Nat.{ℕ}
 use mathlib.Core.Path.{_≡_}
 use mathlib.Core.Bool.{true, false}
 use mathlib.Core.List.{List}
+use Rattle.causes.specs.declared.Cause.the-variants.{LineForm, NumberValue, RepeatedId, TooLong}
 use Rattle.job_line.specs.Bytes.{found, nothing}
 use Rattle.job_line.specs.Line.{line}
-use Rattle.job_part.specs.Part.{Form, among, taken, faulty, judgedEntry, judged}
+use Rattle.ids.specs.Ids.{among}
+use Rattle.job_part.specs.Part.{Form, taken, faulty, judgedEntry, judged}
 
 module _ {A : Type 0} (form : Form A) (ids : List ℕ) (x : A) (rest : List ℕ) where
-  pub entry-value : form .allowed x ≡ false → judgedEntry form ids x rest ≡ faulty 5
+  pub entry-value : form .allowed x ≡ false → judgedEntry form ids x rest ≡ faulty NumberValue
   unfolding judgedEntry
   entry-value bad = rw bad
 
-  pub entry-repeated : form .allowed x ≡ true → among (form .id x) ids ≡ true → judgedEntry form ids x rest ≡ faulty 6
+  pub entry-repeated : form .allowed x ≡ true → among (form .id x) ids ≡ true → judgedEntry form ids x rest ≡ faulty RepeatedId
   unfolding judgedEntry
   entry-repeated good seen = rw (good, seen)
 
-  pub entry-long : form .allowed x ≡ true → among (form .id x) ids ≡ false → form .tooLong x ≡ true → judgedEntry form ids x rest ≡ faulty 7
+  pub entry-long : form .allowed x ≡ true → among (form .id x) ids ≡ false → form .tooLong x ≡ true → judgedEntry form ids x rest ≡ faulty TooLong
   unfolding judgedEntry
   entry-long good new long = rw (good, new, long)
 
@@ -28,7 +30,7 @@ module _ {A : Type 0} (form : Form A) (ids : List ℕ) (x : A) (rest : List ℕ)
   entry-taken good new short = rw (good, new, short)
 
 module _ {A : Type 0} (form : Form A) (ids bytes : List ℕ) where
-  pub line-form : line (form .letter) (form .count) bytes ≡ nothing → judged form ids bytes ≡ faulty 4
+  pub line-form : line (form .letter) (form .count) bytes ≡ nothing → judged form ids bytes ≡ faulty LineForm
   unfolding judged
   line-form none = rw (none, judged)
 

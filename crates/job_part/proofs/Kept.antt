@@ -4,7 +4,6 @@
 --     taken-was    a line is taken only so
 --     taken-is     such a line is taken
 --     keep         a claim about the lines left, the entries so far and the bytes left, handed on by each taken line
---     clash        whatever follows from two constructors' being equal
 use Prim.Native.Nat.{ℕ, zero, suc, _-_}
 use mathlib.Core.Path.{_≡_, refl, subst}
 use mathlib.Core.Bool.{Bool, true, false, not}
@@ -12,9 +11,12 @@ use mathlib.Core.List.{List, [], _∷_, _++_, map}
 use native.Mathlib.Omega.{arith}
 use lib.Dec.{T}
 use lib.ListN.{length}
-use Rattle.job_line.specs.Bytes.{if_then_else_, Found, found, nothing}
+use Rattle.causes.specs.declared.Cause.the-variants.{LineForm, NumberValue, RepeatedId, TooLong}
+use Rattle.basics.specs.Choice.{if_then_else_}
+use Rattle.job_line.specs.Bytes.{Found, found, nothing}
 use Rattle.job_line.specs.Line.{line}
-use Rattle.job_part.specs.Part.{Form, among, Judged, taken, faulty, judgedEntry, judged, whole, stopped, lines}
+use Rattle.ids.specs.Ids.{among}
+use Rattle.job_part.specs.Part.{Form, Judged, taken, faulty, judgedEntry, judged, whole, stopped, lines}
 
 pub record Taken {A : Type 0} (form : Form A) (earlier : List A) (bytes : List ℕ) (x : A) (rest : List ℕ) : Type 0 where
   pub numbers : List ℕ
@@ -24,15 +26,11 @@ pub record Taken {A : Type 0} (form : Form A) (earlier : List A) (bytes : List �
   pub new : T (not (among (form .id x) (map (form .id) earlier)))
   pub in-proportion : T (not (form .tooLong x))
 
--- Two constructors are never equal: `cc` makes any claim of that kind into this one.
-pub clash : {B : Type 0} → _≡_ {A = ℕ} 0 1 → B
-clash e = absurd (omega arith)
-
 module _ {A : Type 0} (form : Form A) where
   -- The three tests of an entry: an entry that is taken passed them, and one that passes them is taken.
   gates :
       (a m l : Bool) (x y : A) (rest rest′ : List ℕ) →
-      (if not a then faulty 5 else if m then faulty 6 else if l then faulty 7 else taken x rest) ≡ taken y rest′ →
+      (if not a then faulty NumberValue else if m then faulty RepeatedId else if l then faulty TooLong else taken x rest) ≡ taken y rest′ →
       T a × T (not m) × T (not l) × (x ≡ y) × (rest ≡ rest′)
   gates true false false x y rest rest′ e = (tt, tt, tt, cc, cc)
   gates false m l x y rest rest′ e = clash (cc)
@@ -50,7 +48,7 @@ module _ {A : Type 0} (form : Form A) where
           (f : Found (List ℕ)) → line (form .letter) (form .count) bytes ≡ f →
           elim f [
             | found ns after ↦ judgedEntry form (map (form .id) earlier) (form .entry ns) after
-            | nothing ↦ faulty 4
+            | nothing ↦ faulty LineForm
           ] ≡ taken x rest → Taken form earlier bytes x rest
       go (found ns after) q e =
           let y : A = form .entry ns in
@@ -70,7 +68,7 @@ module _ {A : Type 0} (form : Form A) where
       T a →
       T (not m) →
       T (not l) →
-      (if not a then faulty 5 else if m then faulty 6 else if l then faulty 7 else taken x rest) ≡ taken x rest
+      (if not a then faulty NumberValue else if m then faulty RepeatedId else if l then faulty TooLong else taken x rest) ≡ taken x rest
   passes true false false x rest h k p = refl
   passes false m l x rest h k p = absurd h
   passes true true l x rest h k p = absurd k

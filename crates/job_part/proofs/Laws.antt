@@ -8,8 +8,10 @@ use mathlib.Core.List.{List, [], _∷_, _++_, map, map-append}
 use native.Mathlib.Omega.{arith}
 use lib.ListN.{length, getD, length-append, List·getD-map, length-map}
 use Rattle.job_part.specs.Part.{Form, whole, partLines}
-use Rattle.job_part.specs.Rules.{Every, Distinct, PartRules}
-use Rattle.job_part.proofs.Lists.{every-snoc, distinct-snoc, distinct-at}
+use Rattle.ids.specs.Ids.{Distinct}
+use Rattle.job_part.specs.Rules.{Every, PartRules}
+use Rattle.ids.proofs.Distinct.{distinct-snoc, distinct-at}
+use Rattle.job_part.proofs.Lists.{every-snoc}
 use Rattle.job_part.proofs.Kept.{Taken, keep}
 
 module _ {A : Type 0} (form : Form A) where

@@ -1,6 +1,3 @@
--- The ids of earlier lines.
-pub mod Members
-pub mod IdSets
 -- How a line is judged, and the lines of a part one after the other.
 pub mod Judging
 pub mod Parts
@@ -8,4 +5,3 @@ pub mod Lists
 -- What every taken line keeps, a whole part keeps.
 pub mod Kept
 pub mod Laws
-pub mod Tests

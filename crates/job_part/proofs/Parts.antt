@@ -11,8 +11,9 @@ use native.Mathlib.Numerals.{add-one}
 use native.Mathlib.Omega.{arith}
 use lib.ListN.{length, take, drop, set, replicate, length-drop, length-set, length-replicate}
 use lib.Seq.{take-suc-set, drop-set-lt, drop-drop}
+use Rattle.causes.specs.declared.Cause.the-variants.{TooManyLines}
 use Rattle.job_part.specs.Arrays.{PartWhole}
-use Rattle.job_part.specs.IdSets.{IdSet}
+use Rattle.ids.specs.IdSets.{IdSet}
 use Rattle.job_part.specs.Part.{Form, taken, faulty, judged, whole, stopped, lines, partLines}
 
 module _ {A : Type 0} (form : Form A) (end : ℕ) where
@@ -23,13 +24,13 @@ module _ {A : Type 0} (form : Form A) (end : ℕ) where
   lines-end (suc left) earlier [] h = refl
   lines-end (suc left) earlier (b ∷ bytes) h = absurd (omega arith)
 
-  pub lines-many : (earlier : List A) (bytes : List ℕ) → 0 < length bytes → lines form end 0 earlier bytes ≡ stopped 8 (end - length bytes)
+  pub lines-many : (earlier : List A) (bytes : List ℕ) → 0 < length bytes → lines form end 0 earlier bytes ≡ stopped TooManyLines (end - length bytes)
   unfolding lines
   lines-many earlier [] h = absurd (omega arith)
   lines-many earlier (b ∷ bytes) h = refl
 
   module _ (left : ℕ) (earlier : List A) where
-    pub lines-faulty : (bytes : List ℕ) (cause : ℕ) → 0 < length bytes → judged form (map (form .id) earlier) bytes ≡ faulty cause → lines form end (suc left) earlier bytes ≡ stopped cause (end - length bytes)
+    pub lines-faulty : (bytes : List ℕ) (cause : Cause) → 0 < length bytes → judged form (map (form .id) earlier) bytes ≡ faulty cause → lines form end (suc left) earlier bytes ≡ stopped cause (end - length bytes)
     unfolding lines
     lines-faulty [] cause h e = absurd (omega arith)
     lines-faulty (b ∷ bytes) cause h e = rw (e, lines)
@@ -82,12 +83,12 @@ module _ {A : Type 0} (form : Form A) (blank : A) (part : List ℕ) where
           blanks = progress .blanks;
         }
 
-    pub progress-many : at < length part → n ≡ form .most → partLines form (offset + length part) part ≡ stopped 8 (offset + at)
+    pub progress-many : at < length part → n ≡ form .most → partLines form (offset + length part) part ≡ stopped TooManyLines (offset + at)
     progress-many more full =
         let none : form .most - n ≡ 0 = omega arith in
-        sym (progress .rest) ∙ rw none (lines-many form (offset + length part) (take n xs) (drop at part) (here more)) ∙ ap (stopped 8) (line-offset more)
+        sym (progress .rest) ∙ rw none (lines-many form (offset + length part) (take n xs) (drop at part) (here more)) ∙ ap (stopped TooManyLines) (line-offset more)
 
-    pub progress-faulty : (cause : ℕ) → at < length part → n < form .most → judged form (map (form .id) (take n xs)) (drop at part) ≡ faulty cause → partLines form (offset + length part) part ≡ stopped cause (offset + at)
+    pub progress-faulty : (cause : Cause) → at < length part → n < form .most → judged form (map (form .id) (take n xs)) (drop at part) ≡ faulty cause → partLines form (offset + length part) part ≡ stopped cause (offset + at)
     progress-faulty cause more room fault =
         sym (progress .rest)
         ∙ rw (one-left room) (lines-faulty form (offset + length part) (form .most - (n + 1)) (take n xs) (drop at part) cause (here more) fault)

@@ -4,7 +4,6 @@ use mathlib.Core.Path.{_≡_}
 use mathlib.Core.List.{List, _++_}
 use lib.ListN.{length, take, drop, replicate}
 use Rattle.job_part.specs.Part.{Lines, whole, stopped}
-use Rattle.job_part.specs.Cause.{numberOf}
 use Rattle.job_part.specs.declared.PartEnd.{PartEnd}
 use Rattle.job_part.specs.declared.PartEnd.the-variants.{Whole, Stopped}
 
@@ -21,4 +20,4 @@ pub record PartWhole {A : Type 0} (size : ℕ) (blank : A) (d : Lines A) (xs : L
 
 abbrev pub PartRead : {A : Type 0} → ℕ → A → Lines A → List A → PartEnd → Type 0
 PartRead size blank d xs (Whole n) = PartWhole size blank d xs n
-PartRead size blank d xs (Stopped cause offset) = d ≡ stopped (numberOf cause) offset
+PartRead size blank d xs (Stopped cause offset) = d ≡ stopped cause offset

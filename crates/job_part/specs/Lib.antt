@@ -1,9 +1,6 @@
 -- Document 01, "The job file" and "What each cause gives": what the glass part and the pane part have in common.
 pub mod Part
-pub mod Cause
 -- What the entries of a part that is read whole keep.
 pub mod Rules
 -- What reading a part promises.
 pub mod Arrays
--- The ids of the lines read so far, as bits.
-pub mod IdSets

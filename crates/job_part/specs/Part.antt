@@ -6,7 +6,9 @@ use mathlib.Core.Bool.{Bool, false, not, _&&_, _||_}
 use mathlib.Core.List.{List, [], _∷_, _++_, map}
 use lib.Dec.{leb, eqb}
 use lib.ListN.{length}
-use Rattle.job_line.specs.Bytes.{if_then_else_, found, nothing}
+use Rattle.causes.specs.declared.Cause.the-variants.{LineForm, NumberValue, RepeatedId, TooLong, TooManyLines}
+use Rattle.basics.specs.Choice.{if_then_else_}
+use Rattle.job_line.specs.Bytes.{found, nothing}
 use Rattle.job_line.specs.Line.{line}
 
 -- What the lines of a part are like. `A` is what one line says: a glass or a pane.
@@ -27,23 +29,18 @@ pub record Form (A : Type 0) : Type 0 where
 abbrev pub between : ℕ → ℕ → ℕ → Bool
 between low high n = leb low n && leb n high
 
--- Whether a number stands in a list.
-unfoldable pub among : ℕ → List ℕ → Bool
-among n [] = false
-among n (m ∷ ms) = eqb m n || among n ms
-
--- A line: what it says and the bytes after it, or the number of its cause.
+-- A line: what it says and the bytes after it, or its cause.
 pub data Judged (A : Type 0) : Type 0 where
   taken : A → List ℕ → Judged A
-  faulty : ℕ → Judged A
+  faulty : Cause → Judged A
 
 -- 5: "a number not among its allowed values"; 6: "id already on an earlier line of that part"; 7: "four-edge pane, longer
 -- side over 3 times the shorter". `ids` are those of the earlier lines.
 unfoldable pub judgedEntry : {A : Type 0} → Form A → List ℕ → A → List ℕ → Judged A
 judgedEntry form ids x rest =
-    if not (form .allowed x) then faulty 5
-    else if among (form .id x) ids then faulty 6
-    else if form .tooLong x then faulty 7
+    if not (form .allowed x) then faulty NumberValue
+    else if among (form .id x) ids then faulty RepeatedId
+    else if form .tooLong x then faulty TooLong
     else taken x rest
 
 -- 4: "line not of its part's form, or newline missing"; then 5, 6, 7.
@@ -51,20 +48,20 @@ unfoldable pub judged : {A : Type 0} → Form A → List ℕ → List ℕ → Ju
 judged form ids bytes =
     elim (line (form .letter) (form .count) bytes) [
       | found ns rest ↦ judgedEntry form ids (form .entry ns) rest
-      | nothing ↦ faulty 4
+      | nothing ↦ faulty LineForm
     ]
 
--- A part: what its lines say, in file order, or the number of the first cause and its offset in the file.
+-- A part: what its lines say, in file order, or the first cause and its offset in the file.
 pub data Lines (A : Type 0) : Type 0 where
   whole : List A → Lines A
-  stopped : ℕ → ℕ → Lines A
+  stopped : Cause → ℕ → Lines A
 
 -- The lines in `bytes`, the rest of a part that ends at the file's offset `end`, behind the lines that say `earlier`.
 -- `left` more lines may begin; 8: "the 65th glass line or 257th pane line begins". A line begins where a byte is left, and
 -- its offset is the part's end less the bytes from the line on.
 unfoldable pub lines : {A : Type 0} → Form A → ℕ → ℕ → List A → List ℕ → Lines A
 lines form end zero earlier [] = whole earlier
-lines form end zero earlier (b ∷ bytes) = stopped 8 (end - length (b ∷ bytes))
+lines form end zero earlier (b ∷ bytes) = stopped TooManyLines (end - length (b ∷ bytes))
 lines form end (suc left) earlier [] = whole earlier
 lines form end (suc left) earlier (b ∷ bytes) =
     elim (judged form (map (form .id) earlier) (b ∷ bytes)) [

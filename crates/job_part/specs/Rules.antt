@@ -4,17 +4,13 @@ use mathlib.Core.Bool.{Bool, not}
 use mathlib.Core.List.{List, [], _∷_, map}
 use lib.Dec.{T}
 use lib.ListN.{length}
-use Rattle.job_part.specs.Part.{Form, among}
+use Rattle.ids.specs.Ids.{among}
+use Rattle.job_part.specs.Part.{Form}
 
 -- A test holds of every entry of a list. `T b` says that the test `b` holds.
 unfoldable pub Every : {A : Type 0} → (A → Bool) → List A → Type 0
 Every test [] = Unit
 Every test (x ∷ xs) = T (test x) × Every test xs
-
--- No number stands in a list twice.
-unfoldable pub Distinct : List ℕ → Type 0
-Distinct [] = Unit
-Distinct (n ∷ ns) = T (not (among n ns)) × Distinct ns
 
 -- What a part's lines keep: no more of them than allowed, each number among its allowed values, distinct ids, and no
 -- four-edge pane with its longer side over 3 times the shorter.

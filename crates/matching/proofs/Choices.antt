@@ -7,7 +7,7 @@ use mathlib.Core.Path.{_≡_, refl, sym, _∙_}
 use mathlib.Core.Bool.{Bool, true, false, not, _&&_, _||_}
 use lib.Dec.{eqb}
 use borrow.Author.Tests.{eq-eqb, not-true}
-use Rattle.ranges.proofs.Tests.{differ, both-true}
+use Rattle.basics.proofs.Tests.{differ, both-true}
 use Rattle.glass_set.specs.Member.{has, Members, Within, unvisited}
 use Rattle.glass_set.proofs.Members.{has-none, unvisited-less}
 use Rattle.matching.specs.Steps.{Unseen}

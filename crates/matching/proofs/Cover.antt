@@ -12,7 +12,7 @@ use mathlib.Core.Bool.{Bool, true, false, not, _&&_, _||_}
 use native.Mathlib.Omega.{arith}
 use lib.Dec.{ltb}
 use borrow.Author.Tests.{ltb-true, ltb-false}
-use Rattle.job_line.specs.Bytes.{if_then_else_}
+use Rattle.basics.specs.Choice.{if_then_else_}
 use Rattle.ranges.specs.Ranges.{sumTo, one, countTo}
 use Rattle.ranges.proofs.Sums.{sum-le, sum-add, sum-le-some}
 use Rattle.ranges.proofs.Counts.{one-le, count-not, count-by}

@@ -8,7 +8,7 @@ use mathlib.Core.Path.{_≡_}
 use mathlib.Core.Logic.{_⊎_, inl, inr}
 use mathlib.Core.List.{List}
 use lib.ListN.{getD}
-use Rattle.ranges.proofs.Tests.{one-more}
+use Rattle.basics.proofs.Tests.{one-more}
 use Rattle.glass_set.specs.Member.{Within}
 use Rattle.glass_set.proofs.Members.{within-trans}
 use Rattle.matching.specs.Steps.{Unseen, Grown, Move, stays, moves, Served, NotServed, Freed}

@@ -10,7 +10,7 @@ use mathlib.Core.Bool.{Bool, true, false, _||_, or-true}
 use mathlib.Core.List.{List}
 use lib.Dec.{eqb}
 use lib.ListN.{getD}
-use Rattle.ranges.proofs.Tests.{differ}
+use Rattle.basics.proofs.Tests.{differ}
 use Rattle.glass_set.specs.Member.{has, Members, Within}
 use Rattle.glass_set.proofs.Members.{within-trans, within-out}
 use Rattle.matching.specs.Steps.{Unseen, Exhausted, Grown}

@@ -13,7 +13,7 @@ use lib.ListN.{length, getD, set}
 use lib.Seq.{getD-set-same, getD-set-other}
 use borrow.Author.Tests.{ne-eqb}
 use Rattle.ranges.specs.Ranges.{one}
-use Rattle.ranges.proofs.Tests.{same-or-not}
+use Rattle.basics.proofs.Tests.{same-or-not}
 use Rattle.ranges.proofs.Sums.{sum-at}
 use Rattle.glass_set.specs.Member.{has, Members, Within}
 use Rattle.glass_set.proofs.Members.{within-trans}

@@ -14,7 +14,7 @@ use lib.Dec.{ltb, eqb}
 use lib.ListN.{length, getD}
 use borrow.Author.Tests.{ne-eqb}
 use Rattle.ranges.specs.Ranges.{one}
-use Rattle.ranges.proofs.Tests.{differ}
+use Rattle.basics.proofs.Tests.{differ}
 use Rattle.ranges.proofs.Sums.{sum-zero}
 use Rattle.glass_set.specs.Member.{has, Members, Within}
 use Rattle.glass_set.proofs.Members.{has-none, within-of}

@@ -14,9 +14,9 @@ use lib.Dec.{ltb, eqb}
 use lib.ListN.{length, getD, set, length-set}
 use lib.Seq.{getD-set-same, getD-set-other}
 use borrow.Author.Tests.{eq-eqb, ne-eqb, ltb-true, ltb-false}
-use Rattle.job_line.specs.Bytes.{if_then_else_}
+use Rattle.basics.specs.Choice.{if_then_else_}
 use Rattle.ranges.specs.Ranges.{one}
-use Rattle.ranges.proofs.Tests.{differ, same-or-not, one-more}
+use Rattle.basics.proofs.Tests.{differ, same-or-not, one-more}
 use Rattle.glass_set.specs.Member.{has, Members, Within}
 use Rattle.glass_set.proofs.Members.{within-trans}
 use Rattle.matching.specs.Rows.{wayOf}

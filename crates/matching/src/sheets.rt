@@ -4,7 +4,7 @@ use glass_set::without;
 ghost use Prim.Native.Nat.{_<_};
 ghost use lib.Dec.{ltb, eqb};
 ghost use lib.ListN.{getD};
-ghost use Rattle.job_line.specs.Bytes.{if_then_else_};
+ghost use Rattle.basics.specs.Choice.{if_then_else_};
 ghost use Rattle.glass_set.specs.Member.{has, Members};
 
 // The glasses of which there is a sheet.

@@ -18,11 +18,11 @@ use borrow.Author.Tests.{eq-eqb, ne-eqb, lt-ltb, le-ltb, ltb-true, ltb-false}
 use Rattle.job_glass.specs.GlassLine.{blankGlass}
 use Rattle.job_glass.specs.declared.Glass.{Glass}
 use Rattle.job_pane.specs.declared.Pane.{Pane}
-use Rattle.ranges.proofs.Tests.{same-or-not, one-more}
+use Rattle.basics.proofs.Tests.{same-or-not, one-more}
 use Rattle.glass_set.specs.Member.{has, Members}
 use Rattle.glass_set.proofs.Members.{has-none}
 use Rattle.placing.specs.Passing.{passes, paneAt, glassAt}
-use Rattle.placing.specs.Steps.{RowOf}
+use Rattle.placing.specs.Stated.{RowOf}
 
 module _ (row number : ℕ) (pass : Bool) where
   pub bit-passes :

@@ -1,6 +1,5 @@
 -- From what the search promises of numbers to what the promise says of ids: the list of the ids of the glasses held is a
 -- placing, with no sheet to spare where a pane is left over, and places the panes that the search serves.
---     Bridge           what the rows and the sheets of the search have to do with the file
 --     bit-of-glass     a glass of the file that passes has its bit set
 --     held-passes      a glass held is one of the file and passes
 --     is-placing       the ids of the glasses held are a placing
@@ -9,7 +8,7 @@
 use Prim.Native.Nat.{ℕ, zero, suc, _≤_, _<_}
 use mathlib.Core.Path.{_≡_, refl, sym, _∙_}
 use mathlib.Core.Logic.{_⊎_, inl, inr}
-use mathlib.Core.Bool.{Bool, true, false, not, _&&_}
+use mathlib.Core.Bool.{Bool, true, false, not}
 use mathlib.Core.List.{List, [], _∷_, map}
 use native.Mathlib.Omega.{arith}
 use lib.Dec.{ltb, eqb}
@@ -17,27 +16,17 @@ use lib.ListN.{length, getD, length-map}
 use borrow.Author.Tests.{ltb-true, ltb-false, lt-ltb, ne-eqb}
 use Rattle.job_glass.specs.declared.Glass.{Glass}
 use Rattle.job_pane.specs.declared.Pane.{Pane}
-use Rattle.job_file.specs.Rules.{Rules}
-use Rattle.ranges.proofs.Tests.{both-true}
+use Rattle.basics.proofs.Tests.{both-true}
 use Rattle.ranges.proofs.Counts.{count-same}
 use Rattle.glass_set.specs.Member.{has}
 use Rattle.matching.specs.Matching.{given, served, Greatest}
 use Rattle.matching.specs.Rows.{taskOf, wayOf}
 use Rattle.placing.specs.Passing.{passes, paneAt, glassAt}
 use Rattle.placing.specs.Placing.{times, nonzero, PassingId, Placing, NoneToSpare}
-use Rattle.placing.specs.Steps.{idsOf}
+use Rattle.placing.specs.Glazing.{idsOf}
+use Rattle.placing.specs.Stated.{Stated}
 use Rattle.placing.proofs.Ids.{times-count, nonzero-count}
-use Rattle.placing.proofs.Numbers.{few, id-of-file, id-past, glass-test}
-
-pub record Bridge (glasses : List Glass) (sheets : List ℕ) (panes : List Pane) (rows sheets64 : List ℕ) : Type 0 where
-  -- the file is an accepted one
-  pub rules : Rules glasses panes
-  pub a-row-each : length rows ≡ length panes
-  -- each bit of a row is the verdict, and no bit is set past the last glass
-  pub bits :
-      (p g : ℕ) → p < length panes → g < 64 →
-      has (getD rows p 0) g ≡ (ltb g (length glasses) && passes (paneAt panes p) (glassAt glasses g))
-  pub sheets-are : (g : ℕ) → g < length glasses → getD sheets64 g 0 ≡ getD sheets g 0
+use Rattle.placing.proofs.Numbers.{id-past, glass-test}
 
 map-at : (f : ℕ → ℕ) (xs : List ℕ) (i : ℕ) → i < length xs → getD (map f xs) i 0 ≡ f (getD xs i 0)
 map-at f [] i l = absurd (omega arith)
@@ -45,22 +34,22 @@ map-at f (x ∷ xs) zero l = refl
 map-at f (x ∷ xs) (suc i) l = map-at f xs i (omega arith)
 
 module _
-    {glasses : List Glass} {sheets : List ℕ} {panes : List Pane} {rows sheets64 : List ℕ}
-    (b : Bridge glasses sheets panes rows sheets64)
+    {glasses : List Glass} {sheets : List ℕ} {panes : List Pane} {rows sheets64 glassIds paneIds : List ℕ}
+    (b : Stated glasses sheets panes rows sheets64 glassIds paneIds)
   where
     -- A set bit is a glass of the file that passes.
     glass-of-bit :
         (p g : ℕ) → p < length panes → g < 64 → has (getD rows p 0) g ≡ true →
         (g < length glasses) × (passes (paneAt panes p) (glassAt glasses g) ≡ true)
     glass-of-bit p g l k set =
-        let is = both-true (ltb g (length glasses)) (passes (paneAt panes p) (glassAt glasses g)) (sym (b .bits p g l k) ∙ set) in
+        let is = both-true (ltb g (length glasses)) (passes (paneAt panes p) (glassAt glasses g)) (sym (b .rows-are p l g k) ∙ set) in
         (ltb-true g (length glasses) (is .0), is .1)
 
     pub bit-of-glass :
         (p g : ℕ) → p < length panes → g < length glasses → passes (paneAt panes p) (glassAt glasses g) ≡ true →
         has (getD rows p 0) g ≡ true
     bit-of-glass p g l k pass =
-        b .bits p g l (omega (arith, few (b .rules))) ∙ rw (lt-ltb g (length glasses) k, pass)
+        b .rows-are p l g (omega (arith, b .known .few)) ∙ rw (lt-ltb g (length glasses) k, pass)
 
     module _
         (held : List ℕ)
@@ -82,7 +71,7 @@ module _
             glass-of-bit p (getD held p 0) l k (best .matching .passing p (omega (arith, b .a-row-each)) k)
 
         none-zero : (p : ℕ) → p < length panes → 64 ≤ getD held p 0 → getD (idsOf glasses held) p 0 ≡ 0
-        none-zero p l none = id-at p l ∙ id-past glasses (getD held p 0) (omega (arith, few (b .rules)))
+        none-zero p l none = id-at p l ∙ id-past glasses (getD held p 0) (omega (arith, b .known .few))
 
         -- An entry is not 0 exactly where a glass is held.
         nonzero-held : (p : ℕ) → p < length panes → not (eqb (getD (idsOf glasses held) p 0) 0) ≡ ltb (getD held p 0) 64
@@ -91,7 +80,7 @@ module _
             go : (t : Bool) → ltb (getD held p 0) 64 ≡ t → not (eqb (getD (idsOf glasses held) p 0) 0) ≡ t
             go true below =
                 let is = held-passes p l (ltb-true (getD held p 0) 64 below) in
-                let id = id-of-file (b .rules) (getD held p 0) (is .0) in
+                let id = b .known .id-low (getD held p 0) (is .0) in
                 rw (ne-eqb (getD (idsOf glasses held) p 0) 0 (λ none. omega (arith, id, id-at p l)))
             go false past = rw (none-zero p l (ltb-false (getD held p 0) 64 past))
 
@@ -105,7 +94,7 @@ module _
             (λ p. eqb (getD (idsOf glasses held) p 0) (glassAt glasses j .id))
             (λ p. eqb (getD held p 0) j)
             (length rows)
-            (λ p k. rw (id-at p (omega (arith, b .a-row-each))) (glass-test (b .rules) (getD held p 0) j l))
+            (λ p k. rw (id-at p (omega (arith, b .a-row-each))) (glass-test (b .known) (getD held p 0) j l))
 
         pub is-placing : Placing glasses sheets panes (idsOf glasses held)
         is-placing = record {
@@ -116,7 +105,7 @@ module _
               omega (
                 arith,
                 times-given j l,
-                best .matching .in-stock j (omega (arith, few (b .rules))),
+                best .matching .in-stock j (omega (arith, b .known .few)),
                 b .sheets-are j l,
               );
         }
@@ -144,5 +133,5 @@ module _
             let here : i < length rows = omega (arith, b .a-row-each) in
             let left : getD held i 0 ≡ 64 = omega (arith, best .or-none i here) in
             times-given j k
-            ∙ best .none-to-spare i here left j (omega (arith, few (b .rules))) (bit-of-glass i j l k pass)
+            ∙ best .none-to-spare i here left j (omega (arith, b .known .few)) (bit-of-glass i j l k pass)
             ∙ b .sheets-are j k

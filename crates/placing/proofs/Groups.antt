@@ -1,37 +1,33 @@
 -- The group of the panes that pass a test of their number, as the code lists it, and which glasses suit a group.
---     InGroup          an id is that of a pane, of the first n, that passes the test
+--     InGroup          an id is one of the first n, and its number passes the test
 --     group-length     the group has as many entries as panes pass
 --     group-among      an id that stands in the group is one of them
 --     group-of-file    each entry is one of them
 --     group-once       each stands in the group once
---     group-front      the group, from the front of a list of panes
 --     Suited           a glass passes for a pane of a group
 --     suits-one        a glass that suits a group does so
-use Prim.Native.Nat.{ℕ, zero, suc, _+_, _≤_, _<_}
+use Prim.Native.Nat.{ℕ, zero, suc, _+_, _<_}
 use mathlib.Core.Path.{_≡_, refl, sym, _∙_}
 use mathlib.Core.Logic.{_⊎_, inl, inr}
 use mathlib.Core.Bool.{Bool, true, false, not, _&&_, _||_}
 use mathlib.Core.List.{List, [], _∷_, _++_}
 use native.Mathlib.Omega.{arith}
 use lib.Dec.{T, eqb}
-use lib.ListN.{length, getD, take, length-append}
-use lib.Seq.{take-length, getD-take}
+use lib.ListN.{length, getD, length-append}
+use lib.Seq.{take-length}
 use borrow.Author.Tests.{eqb-true}
-use Rattle.job_line.specs.Bytes.{if_then_else_}
-use Rattle.job_part.specs.Part.{among}
-use Rattle.job_part.specs.Rules.{Distinct}
-use Rattle.job_part.proofs.Kept.{clash}
-use Rattle.job_part.proofs.Lists.{distinct-snoc}
-use Rattle.job_part.proofs.Members.{among-append, among-found}
+use Rattle.basics.specs.Choice.{if_then_else_}
+use Rattle.ids.specs.Ids.{among}
+use Rattle.ids.specs.Ids.{Distinct}
+use Rattle.basics.proofs.Tests.{clash}
+use Rattle.ids.proofs.Distinct.{distinct-snoc}
+use Rattle.ids.proofs.Members.{among-append, among-found}
 use Rattle.job_glass.specs.declared.Glass.{Glass}
-use Rattle.job_pane.specs.PaneLine.{blankPane}
 use Rattle.job_pane.specs.declared.Pane.{Pane}
-use Rattle.job_file.specs.Rules.{Rules}
 use Rattle.ranges.specs.Ranges.{sumTo, countTo}
 use Rattle.placing.specs.Passing.{passes, paneAt}
 use Rattle.placing.specs.ShortGroup.{suitsOne}
 use Rattle.placing.specs.Steps.{groupTo}
-use Rattle.placing.proofs.Numbers.{same-pane}
 
 -- Among a list and one number more: among the list, or that number.
 among-last : (n : ℕ) (xs : List ℕ) (x : ℕ) → among n (xs ++ (x ∷ [])) ≡ true → (among n xs ≡ true) ⊎ (x ≡ n)
@@ -44,86 +40,72 @@ among-last n xs x e = go (among n xs) (eqb x n) refl refl (sym (among-append n x
     go false true before is e = inr (eqb-true x n is)
     go false false before is e = clash (cc)
 
-pub record InGroup (panes : List Pane) (test : ℕ → Bool) (n id : ℕ) : Type 0 where
+pub record InGroup (ids : List ℕ) (test : ℕ → Bool) (n id : ℕ) : Type 0 where
   pub place : ℕ
   pub below : place < n
   pub passed : test place ≡ true
-  pub is-id : paneAt panes place .id ≡ id
+  pub is-id : getD ids place 0 ≡ id
 
-module _ (panes : List Pane) (test : ℕ → Bool) where
-  pub group-length : (n : ℕ) → length (groupTo panes test n) ≡ countTo test n
+module _ (ids : List ℕ) (test : ℕ → Bool) where
+  pub group-length : (n : ℕ) → length (groupTo ids test n) ≡ countTo test n
   unfolding groupTo sumTo
   group-length zero = refl
   group-length (suc n) = go (test n) (group-length n)
     where
       go :
-          (b : Bool) → length (groupTo panes test n) ≡ countTo test n →
-          length (if b then groupTo panes test n ++ (paneAt panes n .id ∷ []) else groupTo panes test n)
+          (b : Bool) → length (groupTo ids test n) ≡ countTo test n →
+          length (if b then groupTo ids test n ++ (getD ids n 0 ∷ []) else groupTo ids test n)
           ≡ countTo test n + (if b then 1 else 0)
       go true later = rw (length-append, later)
       go false later = omega arith
 
-  pub group-among : (n id : ℕ) → among id (groupTo panes test n) ≡ true → InGroup panes test n id
+  pub group-among : (n id : ℕ) → among id (groupTo ids test n) ≡ true → InGroup ids test n id
   unfolding groupTo among
   group-among zero id e = clash (cc)
   group-among (suc n) id e = go (test n) refl e (group-among n id)
     where
-      wider : InGroup panes test n id → InGroup panes test (suc n) id
+      wider : InGroup ids test n id → InGroup ids test (suc n) id
       wider p = record { place = p .place; below = omega (arith, p .below); passed = p .passed; is-id = p .is-id }
 
       last :
-          test n ≡ true → (among id (groupTo panes test n) ≡ true) ⊎ (paneAt panes n .id ≡ id) →
-          (among id (groupTo panes test n) ≡ true → InGroup panes test n id) → InGroup panes test (suc n) id
+          test n ≡ true → (among id (groupTo ids test n) ≡ true) ⊎ (getD ids n 0 ≡ id) →
+          (among id (groupTo ids test n) ≡ true → InGroup ids test n id) → InGroup ids test (suc n) id
       last passed (inl before) later = wider (later before)
       last passed (inr is) later = record { place = n; below = omega arith; passed = passed; is-id = is }
 
       go :
           (b : Bool) → test n ≡ b →
-          among id (if b then groupTo panes test n ++ (paneAt panes n .id ∷ []) else groupTo panes test n) ≡ true →
-          (among id (groupTo panes test n) ≡ true → InGroup panes test n id) → InGroup panes test (suc n) id
-      go true passed e later = last passed (among-last id (groupTo panes test n) (paneAt panes n .id) e) later
+          among id (if b then groupTo ids test n ++ (getD ids n 0 ∷ []) else groupTo ids test n) ≡ true →
+          (among id (groupTo ids test n) ≡ true → InGroup ids test n id) → InGroup ids test (suc n) id
+      go true passed e later = last passed (among-last id (groupTo ids test n) (getD ids n 0) e) later
       go false failed e later = wider (later e)
 
   pub group-of-file :
-      (n k : ℕ) → k < length (groupTo panes test n) → InGroup panes test n (getD (groupTo panes test n) k 0)
+      (n k : ℕ) → k < length (groupTo ids test n) → InGroup ids test n (getD (groupTo ids test n) k 0)
   group-of-file n k l =
-      let group : List ℕ = groupTo panes test n in
+      let group : List ℕ = groupTo ids test n in
       group-among n (getD group k 0)
       (rw take-length at (among-found (getD group k 0) group k (length group) l (omega arith) refl))
 
-  pub group-once : {glasses : List Glass} → Rules glasses panes → (n : ℕ) → n ≤ length panes → Distinct (groupTo panes test n)
+  pub group-once :
+      (n : ℕ) → ((i j : ℕ) → i < n → j < n → getD ids i 0 ≡ getD ids j 0 → i ≡ j) → Distinct (groupTo ids test n)
   unfolding groupTo Distinct
-  group-once rules zero l = tt
-  group-once rules (suc n) l = go (test n) (group-once rules n (omega arith))
+  group-once zero same = tt
+  group-once (suc n) same =
+      go (test n) (group-once n (λ i j l k. same i j (omega arith) (omega arith)))
     where
-      new : (b : Bool) → among (paneAt panes n .id) (groupTo panes test n) ≡ b → T (not b)
+      new : (b : Bool) → among (getD ids n 0) (groupTo ids test n) ≡ b → T (not b)
       new true is =
-          let other = group-among n (paneAt panes n .id) is in
-          let same = same-pane rules (other .place) n (omega (arith, other .below)) l (other .is-id) in
-          absurd (omega (arith, other .below, same))
+          let other = group-among n (getD ids n 0) is in
+          let itself = same (other .place) n (omega (arith, other .below)) (omega arith) (other .is-id) in
+          absurd (omega (arith, other .below, itself))
       new false is = tt
 
       go :
-          (b : Bool) → Distinct (groupTo panes test n) →
-          Distinct (if b then groupTo panes test n ++ (paneAt panes n .id ∷ []) else groupTo panes test n)
-      go true later = distinct-snoc (groupTo panes test n) (paneAt panes n .id) later (new _ refl)
+          (b : Bool) → Distinct (groupTo ids test n) →
+          Distinct (if b then groupTo ids test n ++ (getD ids n 0 ∷ []) else groupTo ids test n)
+      go true later = distinct-snoc (groupTo ids test n) (getD ids n 0) later (new _ refl)
       go false later = later
-
-pub group-front :
-    (array : List Pane) (test : ℕ → Bool) (m n : ℕ) → n ≤ m → groupTo array test n ≡ groupTo (take m array) test n
-unfolding groupTo
-group-front array test m zero l = refl
-group-front array test m (suc n) l = go (test n) (group-front array test m n (omega arith))
-  where
-    pane : paneAt (take m array) n ≡ paneAt array n
-    pane = getD-take m array n blankPane (omega arith)
-
-    go :
-        (b : Bool) → groupTo array test n ≡ groupTo (take m array) test n →
-        (if b then groupTo array test n ++ (paneAt array n .id ∷ []) else groupTo array test n)
-        ≡ (if b then groupTo (take m array) test n ++ (paneAt (take m array) n .id ∷ []) else groupTo (take m array) test n)
-    go true e = rw (pane, e)
-    go false e = e
 
 pub record Suited (panes : List Pane) (group : List ℕ) (glass : Glass) : Type 0 where
   pub place : ℕ

@@ -11,4 +11,5 @@ pub mod Writes
 pub mod Bits
 -- The promise of the call, from what its parts leave.
 pub mod Glazing
+pub mod Fronts
 pub mod Promises

@@ -1,7 +1,6 @@
 -- The glasses and panes of an accepted file by their numbers, counted from 0: an id says which one it is.
 --     id-past         the id of a number past the last glass is 0
---     few             a file has at most 64 glasses
---     id-of-file      the id of a glass of the file is not 0
+--     known-file      an accepted file has what the placing asks
 --     same-glass      one id, one glass
 --     glass-test      a test of ids is one of numbers
 --     same-pane       one id, one pane
@@ -16,13 +15,14 @@ use native.Mathlib.Omega.{arith}
 use lib.Dec.{ltb, eqb}
 use lib.ListN.{length, List·getD-eq-default}
 use borrow.Author.Tests.{ltb-true, ltb-false, eqb-true, eqb-false, eq-eqb, ne-eqb}
-use Rattle.job_line.specs.Bytes.{if_then_else_}
+use Rattle.basics.specs.Choice.{if_then_else_}
 use Rattle.job_glass.specs.GlassLine.{blankGlass}
 use Rattle.job_glass.specs.declared.Glass.{Glass}
 use Rattle.job_pane.specs.declared.Pane.{Pane}
 use Rattle.job_file.specs.Rules.{Rules}
 use Rattle.job_file.proofs.Accepted.{glass-values, glass-ids, pane-ids}
 use Rattle.placing.specs.Passing.{paneAt, glassAt}
+use Rattle.placing.specs.Stated.{Known}
 
 -- Numbers below a bound whose ids differ where they do are told by their ids.
 module _ (id : ℕ → ℕ) (n : ℕ) (apart : (i j : ℕ) → i < j → j < n → id i ≡ id j → ⊥) where
@@ -37,22 +37,24 @@ module _ (id : ℕ → ℕ) (n : ℕ) (apart : (i j : ℕ) → i < j → j < n �
 pub id-past : (glasses : List Glass) (g : ℕ) → length glasses ≤ g → glassAt glasses g .id ≡ 0
 id-past glasses g past = ap (λ (x : Glass). x .id) (List·getD-eq-default glasses blankGlass past)
 
-module _ {glasses : List Glass} {panes : List Pane} (rules : Rules glasses panes) where
-  pub few : length glasses ≤ 64
-  few = rules .of-glasses .at-most
+pub known-file : {glasses : List Glass} {panes : List Pane} → Rules glasses panes → Known glasses panes
+known-file rules = record {
+  few = rules .of-glasses .at-most;
+  id-low = λ g l. glass-values rules g l .id-low;
+  glass-ids = glass-ids rules;
+  pane-ids = pane-ids rules;
+}
 
-  pub id-of-file : (g : ℕ) → g < length glasses → 1 ≤ glassAt glasses g .id
-  id-of-file g l = glass-values rules g l .id-low
-
+module _ {glasses : List Glass} {panes : List Pane} (known : Known glasses panes) where
   pub same-glass : (g j : ℕ) → j < length glasses → glassAt glasses g .id ≡ glassAt glasses j .id → g ≡ j
   same-glass g j l e = go (ltb g (length glasses)) refl
     where
       go : (b : Bool) → ltb g (length glasses) ≡ b → g ≡ j
       go true below =
-          same-number (λ i. glassAt glasses i .id) (length glasses) (glass-ids rules) g j
+          same-number (λ i. glassAt glasses i .id) (length glasses) (known .glass-ids) g j
           (ltb-true g (length glasses) below) l e
       go false past =
-          absurd (omega (arith, id-past glasses g (ltb-false g (length glasses) past), id-of-file j l))
+          absurd (omega (arith, id-past glasses g (ltb-false g (length glasses) past), known .id-low j l))
 
   pub glass-test :
       (g j : ℕ) → j < length glasses → eqb (glassAt glasses g .id) (glassAt glasses j .id) ≡ eqb g j
@@ -63,7 +65,7 @@ module _ {glasses : List Glass} {panes : List Pane} (rules : Rules glasses panes
       go false other = ne-eqb _ _ (λ e. eqb-false g j other (same-glass g j l e))
 
   pub same-pane : (p q : ℕ) → p < length panes → q < length panes → paneAt panes p .id ≡ paneAt panes q .id → p ≡ q
-  same-pane = same-number (λ i. paneAt panes i .id) (length panes) (pane-ids rules)
+  same-pane = same-number (λ i. paneAt panes i .id) (length panes) (known .pane-ids)
 
 -- The number of the first glass of an id; at least 64, which is none, where no glass has it.
 unfoldable pub placeOf : ℕ → List Glass → ℕ

@@ -19,14 +19,15 @@ use Rattle.matching.specs.Matching.{given, served, Matching, Greatest}
 use Rattle.matching.specs.Rows.{taskOf, wayOf}
 use Rattle.placing.specs.Passing.{paneAt, glassAt}
 use Rattle.placing.specs.Placing.{times, nonzero, PassingId, Placing, FullPlacing}
-use Rattle.placing.specs.Steps.{idsOf}
+use Rattle.placing.specs.Glazing.{idsOf}
+use Rattle.placing.specs.Stated.{Stated}
 use Rattle.placing.proofs.Ids.{times-count, nonzero-count, nonzero-le}
-use Rattle.placing.proofs.Numbers.{few, id-of-file, same-glass, placeOf, place-found, place-first}
-use Rattle.placing.proofs.Bridge.{Bridge, bit-of-glass, is-placing, placed-served}
+use Rattle.placing.proofs.Numbers.{same-glass, placeOf, place-found, place-first}
+use Rattle.placing.proofs.Bridge.{bit-of-glass, is-placing, placed-served}
 
 module _
-    {glasses : List Glass} {sheets : List ℕ} {panes : List Pane} {rows sheets64 : List ℕ}
-    (b : Bridge glasses sheets panes rows sheets64)
+    {glasses : List Glass} {sheets : List ℕ} {panes : List Pane} {rows sheets64 glassIds paneIds : List ℕ}
+    (b : Stated glasses sheets panes rows sheets64 glassIds paneIds)
   where
     module _ (ids : List ℕ) (placing : Placing glasses sheets panes ids) where
       -- The numbers of the glasses that a placing gives.
@@ -46,9 +47,9 @@ module _
           go :
               (way p < length glasses) × (glassAt glasses (way p) .id ≡ getD ids p 0) →
               (getD ids p 0 ≡ 0) ⊎ PassingId glasses (paneAt panes p) (getD ids p 0) → has (getD rows p 0) (way p) ≡ true
-          go found (inl none) = absurd (omega (arith, id-of-file (b .rules) (way p) (found .0), found .1))
+          go found (inl none) = absurd (omega (arith, b .known .id-low (way p) (found .0), found .1))
           go found (inr given) =
-              rw (same-glass (b .rules) (way p) (given .place) (given .of-file) (found .1 ∙ sym (given .is-id)))
+              rw (same-glass (b .known) (way p) (given .place) (given .of-file) (found .1 ∙ sym (given .is-id)))
               (bit-of-glass b p (given .place) l (given .of-file) (given .passing))
 
       way-in-stock : (g : ℕ) → g < 64 → given (taskOf rows sheets64) way g ≤ getD sheets64 g 0
@@ -96,7 +97,7 @@ module _
           go p some (inl none) = absurd (eqb-false (getD ids p 0) 0 some none)
           go p some (inr given) =
               let first = place-first (getD ids p 0) glasses (given .place) (given .of-file) (given .is-id) in
-              lt-ltb (way p) 64 (omega (arith, given .of-file, few (b .rules)))
+              lt-ltb (way p) 64 (omega (arith, given .of-file, b .known .few))
 
     module _
         (held : List ℕ)

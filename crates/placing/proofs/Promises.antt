@@ -11,6 +11,7 @@ use mathlib.Core.List.{List}
 use lib.Dec.{ltb}
 use lib.ListN.{length}
 use borrow.Author.Tests.{lt-ltb, le-ltb}
+use Rattle.causes.specs.declared.Cause.the-variants.{ListTooShort}
 use Rattle.job_glass.specs.declared.Glass.{Glass}
 use Rattle.job_pane.specs.declared.Pane.{Pane}
 use Rattle.job_file.specs.File.{Outcome, accepted, refused}
@@ -29,11 +30,11 @@ module _ (o : Outcome) (answers group : List ℕ) where
   module _ (glasses : List Glass) (panes : List Pane) (is : o ≡ accepted glasses panes) where
     pub promised-short :
         (length answers < length panes) ⊎ (length group < length panes) →
-        Promised o (call (refuses 9 0) answers answers group group)
+        Promised o (call (refuses ListTooShort 0) answers answers group group)
     unfolding Promised
-    promised-short (inl l) = rw (is, Promised, lt-ltb (length answers) (length panes) l) (kept 9 0)
+    promised-short (inl l) = rw (is, Promised, lt-ltb (length answers) (length panes) l) (kept ListTooShort 0)
     promised-short (inr l) =
-        rw (is, Promised, lt-ltb (length group) (length panes) l, or-true (ltb (length answers) (length panes))) (kept 9 0)
+        rw (is, Promised, lt-ltb (length group) (length panes) l, or-true (ltb (length answers) (length panes))) (kept ListTooShort 0)
 
     pub promised-glazed :
         (result : Says) (answers-after group-after : List ℕ) →

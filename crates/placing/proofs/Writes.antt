@@ -16,12 +16,9 @@ use native.Mathlib.Omega.{arith}
 use lib.Dec.{eqb}
 use lib.ListN.{length, getD, set, take, drop, length-map, length-append}
 use lib.Seq.{take-at, drop-at, take-suc, length-take-le, drop-length}
-use Rattle.job_line.specs.Bytes.{if_then_else_}
-use Rattle.job_glass.specs.declared.Glass.{Glass}
-use Rattle.job_pane.specs.declared.Pane.{Pane}
-use Rattle.placing.specs.Passing.{paneAt, glassAt}
+use Rattle.basics.specs.Choice.{if_then_else_}
 use Rattle.placing.specs.Placing.{nonzero}
-use Rattle.placing.specs.Steps.{idsOf, groupTo, written, Answered}
+use Rattle.placing.specs.Steps.{idsAt, groupTo, written, Answered}
 use Rattle.placing.proofs.Ids.{nonzero-le}
 
 pub written-next :
@@ -73,41 +70,41 @@ unfolding nonzero
 nonzero-last [] x = omega arith
 nonzero-last (y ∷ ys) x = omega (arith, nonzero-last ys x)
 
-module _ (glasses : List Glass) (held before : List ℕ) (fits : length held ≤ length before) where
-  pub answered-none : Answered glasses (take 0 held) before before 0
+module _ (ids held before : List ℕ) (fits : length held ≤ length before) where
+  pub answered-none : Answered ids (take 0 held) before before 0
   unfolding nonzero
   answered-none = record { answers = refl; placed-is = refl }
 
   pub answered-next :
-      (i : ℕ) (after : List ℕ) (placed id : ℕ) → i < length held → id ≡ glassAt glasses (getD held i 0) .id →
-      Answered glasses (take i held) before after placed →
-      Answered glasses (take (i + 1) held) before (set after i id) (placed + (if eqb id 0 then 0 else 1))
+      (i : ℕ) (after : List ℕ) (placed id : ℕ) → i < length held → id ≡ getD ids (getD held i 0) 0 →
+      Answered ids (take i held) before after placed →
+      Answered ids (take (i + 1) held) before (set after i id) (placed + (if eqb id 0 then 0 else 1))
   answered-next i after placed id l is a = record {
-    answers = rw is (written-map (λ g. glassAt glasses g .id) held 0 i before after l fits (a .answers));
+    answers = rw is (written-map (λ g. getD ids g 0) held 0 i before after l fits (a .answers));
     placed-is =
-        rw (map-next (λ g. glassAt glasses g .id) held 0 i l, nonzero-last, ← is, a .placed-is);
+        rw (map-next (λ g. getD ids g 0) held 0 i l, nonzero-last, ← is, a .placed-is);
   }
 
   pub answered-le :
-      (i : ℕ) (after : List ℕ) (placed : ℕ) → i ≤ length held → Answered glasses (take i held) before after placed → placed ≤ i
+      (i : ℕ) (after : List ℕ) (placed : ℕ) → i ≤ length held → Answered ids (take i held) before after placed → placed ≤ i
   answered-le i after placed l a =
-      let ids : List ℕ = idsOf glasses (take i held) in
-      omega (arith, a .placed-is, nonzero-le ids i (map-long (λ g. glassAt glasses g .id) held i l))
+      let given : List ℕ = idsAt ids (take i held) in
+      omega (arith, a .placed-is, nonzero-le given i (map-long (λ g. getD ids g 0) held i l))
 
-module _ (panes : List Pane) (test : ℕ → Bool) (before : List ℕ) (n : ℕ) where
+module _ (ids : List ℕ) (test : ℕ → Bool) (before : List ℕ) (n : ℕ) where
   pub grouped-in :
-      (after : List ℕ) → test n ≡ true → length (groupTo panes test n) < length before →
-      after ≡ written (groupTo panes test n) before →
-      (set after (length (groupTo panes test n)) (paneAt panes n .id) ≡ written (groupTo panes test (n + 1)) before)
-      × (length (groupTo panes test (n + 1)) ≡ length (groupTo panes test n) + 1)
+      (after : List ℕ) → test n ≡ true → length (groupTo ids test n) < length before →
+      after ≡ written (groupTo ids test n) before →
+      (set after (length (groupTo ids test n)) (getD ids n 0) ≡ written (groupTo ids test (n + 1)) before)
+      × (length (groupTo ids test (n + 1)) ≡ length (groupTo ids test n) + 1)
   unfolding groupTo
   grouped-in after passed fits is =
-      let next : groupTo panes test (n + 1) ≡ groupTo panes test n ++ (paneAt panes n .id ∷ []) =
+      let next : groupTo ids test (n + 1) ≡ groupTo ids test n ++ (getD ids n 0 ∷ []) =
       rw (add-one, groupTo, passed) in (
-        rw (is, next) (written-next (groupTo panes test n) before (paneAt panes n .id) fits),
+        rw (is, next) (written-next (groupTo ids test n) before (getD ids n 0) fits),
         rw (next, length-append),
       )
 
-  pub grouped-out : test n ≡ false → groupTo panes test (n + 1) ≡ groupTo panes test n
+  pub grouped-out : test n ≡ false → groupTo ids test (n + 1) ≡ groupTo ids test n
   unfolding groupTo
   grouped-out failed = rw (add-one, groupTo, failed)

@@ -13,9 +13,9 @@ use native.Mathlib.Nat.{le-refl}
 use native.Mathlib.Omega.{arith}
 use lib.Dec.{ltb, eqb}
 use borrow.Author.Tests.{ltb-true, ltb-false, lt-ltb, le-ltb, eq-eqb, ne-eqb}
-use Rattle.job_line.specs.Bytes.{if_then_else_}
+use Rattle.basics.specs.Choice.{if_then_else_}
 use Rattle.ranges.specs.Ranges.{sumTo, one, countTo}
-use Rattle.ranges.proofs.Tests.{last-or-below}
+use Rattle.basics.proofs.Tests.{last-or-below}
 use Rattle.ranges.proofs.Sums.{sum-zero, sum-cong, sum-le, sum-add}
 
 pub one-le : (a b : Bool) → (a ≡ true → b ≡ true) → one a ≤ one b

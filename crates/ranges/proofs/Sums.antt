@@ -13,9 +13,9 @@ use mathlib.Core.Logic.{_⊎_, inl, inr}
 use mathlib.Core.Bool.{Bool, true, false}
 use native.Mathlib.Nat.{le-refl, eq-or-lt-of-le}
 use native.Mathlib.Omega.{arith}
-use Rattle.job_line.specs.Bytes.{if_then_else_}
+use Rattle.basics.specs.Choice.{if_then_else_}
 use Rattle.ranges.specs.Ranges.{sumTo}
-use Rattle.ranges.proofs.Tests.{last-or-below}
+use Rattle.basics.proofs.Tests.{last-or-below}
 
 pub sum-zero : (f : ℕ → ℕ) (n : ℕ) → ((i : ℕ) → i < n → f i ≡ 0) → sumTo f n ≡ 0
 unfolding sumTo

@@ -1,7 +1,7 @@
 -- Sums, counts and tests over the numbers below a bound.
 use Prim.Native.Nat.{ℕ, zero, suc, _+_}
 use mathlib.Core.Bool.{Bool, true, _&&_}
-use Rattle.job_line.specs.Bytes.{if_then_else_}
+use Rattle.basics.specs.Choice.{if_then_else_}
 
 -- f 0 + f 1 + .. below n.
 unfoldable pub sumTo : (ℕ → ℕ) → ℕ → ℕ

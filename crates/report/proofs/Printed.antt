@@ -7,11 +7,11 @@ use Prim.Native.Nat.{ℕ, zero, suc, _≤_, _<_, min}
 use mathlib.Core.Path.{_≡_, refl, ap, sym, subst, _∙_}
 use mathlib.Core.Logic.{_⊎_, inl, inr}
 use mathlib.Core.List.{List}
-use native.Mathlib.Nat.{min-le-left, min-le-right}
+use native.Mathlib.Nat.{min-le-right}
 use native.Mathlib.Omega.{arith}
 use lib.ListN.{length, getD, take, length-take}
 use lib.Seq.{getD-take}
-use Rattle.ranges.proofs.Tests.{same-or-not}
+use Rattle.basics.proofs.Tests.{same-or-not}
 use Rattle.job_glass.specs.declared.Glass.{Glass}
 use Rattle.job_pane.specs.declared.Pane.{Pane}
 use Rattle.job_pane.specs.PaneLine.{blankPane}
@@ -21,7 +21,8 @@ use Rattle.job_file.proofs.Accepted.{glass-values, pane-values}
 use Rattle.job_file.proofs.Fronts.{few-panes, pane-at}
 use Rattle.placing.specs.Passing.{paneAt}
 use Rattle.placing.specs.Placing.{stocksOf, PassingId}
-use Rattle.placing.specs.Promise.{counts, Call, Group, Glazed}
+use Rattle.placing.specs.ShortGroup.{ShortGroup}
+use Rattle.placing.specs.Promise.{counts, Call, Glazed}
 use Rattle.placing.proofs.Ids.{nonzero-le}
 use Rattle.report.specs.Text.{paneLines, placingText, refusalText}
 use Rattle.report.specs.Promise.{TextOf, Reported}
@@ -75,81 +76,81 @@ module _
     abbrev answers : List ℕ
     answers = take paneCount (c .answers-after)
 
-    abbrev group : List ℕ
-    group = take (g .count) (c .group-after)
+    -- The answers are the ids of the placing.
+    answers-long : length (g .ids) ≡ paneCount
+    answers-long = g .glazing .placing .one-each ∙ front .pane-count
+
+    answers-are : answers ≡ g .ids
+    answers-are = subst (λ (n : ℕ). take n (c .answers-after) ≡ g .ids) answers-long (g .answers-written .front)
 
     -- An answer is 0 or the id of a glass.
     given-short : (pane : Pane) (id : ℕ) → (id ≡ 0) ⊎ PassingId glasses pane id → id ≤ 9999
     given-short pane id (inl e) = omega (arith, e)
     given-short pane id (inr p) = omega (arith, p .is-id, glass-values (front .rules) (p .place) (p .of-file) .id-high)
 
-    answer-short : (k : ℕ) → k < paneCount → getD answers k 0 ≤ 9999
-    answer-short k l =
-        subst (λ (n : ℕ). getD (take n (c .answers-after)) k 0 ≤ 9999) (front .pane-count)
-        (given-short (paneAt panes k) _ (g .placing .passing k (omega (arith, front .pane-count))))
-
-    answers-long : length answers ≡ paneCount
-    answers-long =
-        subst (λ (n : ℕ). length (take n (c .answers-after)) ≡ n) (front .pane-count) (g .placing .one-each)
+    answer-short : (k : ℕ) → k < paneCount → getD (g .ids) k 0 ≤ 9999
+    answer-short k l = given-short (paneAt panes k) _ (g .glazing .placing .passing k (omega (arith, front .pane-count)))
 
     -- The group is within its list, and its ids are those of panes; where all are placed it is empty.
-    abbrev GroupFits : Type 0
-    GroupFits = (g .count ≤ length (c .group-after)) × FourDigits group
+    group-within : length (g .group-ids) ≤ length (c .group-after)
+    group-within =
+        let n = length (g .group-ids) in
+        omega (
+          arith,
+          min-le-right n (length (c .group-after)),
+          length-take n (c .group-after),
+          ap length (g .group-written .front),
+        )
 
-    no-longer : length group ≤ g .count
-    no-longer = omega (arith, length-take (g .count) (c .group-after), min-le-left (g .count) (length (c .group-after)))
+    of-panes : ShortGroup glasses (stocksOf glasses) panes (g .group-ids) → FourDigits (g .group-ids)
+    of-panes s k l =
+        let p = s .of-file k l in
+        omega (arith, p .is-id, pane-values (front .rules) (p .place) (p .of-file) .id-high)
 
-    empty : g .count ≡ 0 → GroupFits
-    empty none = (omega (arith, none), λ k l. absurd (omega (arith, l, none, no-longer)))
-
-    of-panes : Group glasses (stocksOf glasses) panes (g .count) c → GroupFits
-    of-panes s = (
-      omega (arith, min-le-right (g .count) (length (c .group-after)), length-take (g .count) (c .group-after), s .number),
-      λ k l. let p = s .short-group .of-file k l in
-          omega (arith, p .is-id, pane-values (front .rules) (p .place) (p .of-file) .id-high),
-    )
-
-    group-fits : GroupFits
-    group-fits = go (same-or-not (g .placed) (length panes))
+    group-short : FourDigits (g .group-ids)
+    group-short = go (same-or-not (g .placed) (length panes))
       where
-        go : (g .placed ≡ length panes) ⊎ (g .placed ≡ length panes → ⊥) → GroupFits
-        go (inl all) = empty (g .if-equal all .none)
-        go (inr less) = of-panes (g .if-less less)
+        go : (g .placed ≡ length panes) ⊎ (g .placed ≡ length panes → ⊥) → FourDigits (g .group-ids)
+        go (inl all) = λ k l. absurd (omega (arith, ap length (g .glazing .if-equal all)))
+        go (inr less) = of-panes (g .glazing .if-less less)
 
     module _ (wanted placed listed : ℕ) (is : c .result ≡ counts wanted placed listed) where
       same-placed : placed ≡ g .placed
       same-placed = let both = sym is ∙ g .result in cc
 
-      same-count : listed ≡ g .count
+      same-count : listed ≡ length (g .group-ids)
       same-count = let both = sym is ∙ g .result in cc
 
       pub listed-fits : listed ≤ length (c .group-after)
-      listed-fits = rw same-count (group-fits .0)
+      listed-fits = rw same-count group-within
+
+      listed-are : take listed (c .group-after) ≡ g .group-ids
+      listed-are = rw same-count (g .group-written .front)
 
       pub printable :
           PaneIds paneArray answers × FourDigits (take listed (c .group-after)) × (placed ≤ 256)
       printable = (
         record {
-          few = omega (arith, answers-long, few-panes front);
-          answers-short = λ k l. answer-short k (omega (arith, answers-long));
-          ids-short = λ k l. pane-at front k (omega (arith, answers-long)) .id-high;
+          few = omega (arith, ap length answers-are, answers-long, few-panes front);
+          answers-short = λ k l. rw answers-are (answer-short k (omega (arith, ap length answers-are, answers-long)));
+          ids-short = λ k l. pane-at front k (omega (arith, ap length answers-are, answers-long)) .id-high;
         },
-        rw same-count (group-fits .1),
+        rw listed-are group-short,
         omega (
           arith,
           same-placed,
-          g .placed-is,
-          nonzero-le (take (length panes) (c .answers-after)) (length panes) (g .placing .one-each),
+          g .glazing .placed-is,
+          nonzero-le (g .ids) (length panes) (g .glazing .placing .one-each),
           front .pane-count,
           few-panes front,
         ),
       )
 
       same-lines :
-          paneLines paneArray answers paneCount ≡ paneLines panes (c .answers-after) paneCount
+          paneLines paneArray answers paneCount ≡ paneLines panes (g .ids) paneCount
       same-lines =
-          lines-agree paneArray panes answers (c .answers-after) paneCount
-          (λ k l. sym (getD-take paneCount paneArray k blankPane l)) (λ k l. getD-take paneCount (c .answers-after) k 0 l)
+          lines-agree paneArray panes answers (g .ids) paneCount
+          (λ k l. sym (getD-take paneCount paneArray k blankPane l)) (λ k l. rw answers-are)
 
       pub printed :
           (o : Outcome) → o ≡ accepted glasses panes →
@@ -158,7 +159,9 @@ module _
       printed o accepted-is =
           rw accepted-is
           (record {
-            given = c;
-            glazed = g;
-            is-text = rw (answers-long, front .pane-count, same-placed, same-count, same-lines);
+            ids = g .ids;
+            group = g .group-ids;
+            placed = g .placed;
+            glazing = g .glazing;
+            is-text = rw (ap length answers-are ∙ answers-long, front .pane-count, same-placed, listed-are, same-lines);
           })

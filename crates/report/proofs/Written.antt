@@ -16,7 +16,8 @@ use lib.Dec.{ltb}
 use lib.ListN.{length, getD, take, drop, set, length-append, take-append-drop}
 use lib.Seq.{set-split, take-set-le, drop-at, length-take-le}
 use borrow.Author.Tests.{lt-ltb}
-use Rattle.job_line.specs.Bytes.{if_then_else_, space, newline}
+use Rattle.basics.specs.Choice.{if_then_else_}
+use Rattle.job_line.specs.Bytes.{space, newline}
 use Rattle.job_line.specs.WrittenNumber.{writtenDigits, digitCount, writtenNumber, writtenNumbers}
 use Rattle.job_pane.specs.declared.Pane.{Pane}
 use Rattle.placing.specs.Passing.{paneAt}

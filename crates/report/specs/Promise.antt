@@ -7,15 +7,16 @@ use Rattle.job_glass.specs.declared.Glass.{Glass}
 use Rattle.job_pane.specs.declared.Pane.{Pane}
 use Rattle.job_file.specs.File.{Outcome, accepted, refused}
 use Rattle.placing.specs.Placing.{stocksOf}
-use Rattle.placing.specs.Promise.{Call, Glazed}
+use Rattle.placing.specs.Glazing.{Glazing}
 use Rattle.report.specs.Text.{placingText, refusalText}
 
--- The text of answers, counts and a group for which all holds that `place` promises of a file that isn't refused.
+-- The text of answers, counts and a group that are a placing of a file from its stocks, as `place` promises it.
 pub record TextOfPlacing (glasses : List Glass) (panes : List Pane) (text : List ℕ) : Type 0 where
-  pub given : Call
-  pub glazed : Glazed glasses (stocksOf glasses) panes given
-  pub is-text :
-      text ≡ placingText panes (given .answers-after) (length panes) (glazed .placed) (take (glazed .count) (given .group-after))
+  pub ids : List ℕ
+  pub group : List ℕ
+  pub placed : ℕ
+  pub glazing : Glazing glasses (stocksOf glasses) panes ids group placed
+  pub is-text : text ≡ placingText panes ids (length panes) placed group
 
 -- A text is one that `canopy` may print of a file.
 abbrev pub TextOf : Outcome → List ℕ → Type 0

@@ -3,7 +3,8 @@ use Prim.Native.Nat.{ℕ, zero, suc}
 use mathlib.Core.List.{List, [], _∷_, _++_}
 use lib.Dec.{eqb}
 use lib.ListN.{getD}
-use Rattle.job_line.specs.Bytes.{if_then_else_, newline}
+use Rattle.basics.specs.Choice.{if_then_else_}
+use Rattle.job_line.specs.Bytes.{newline}
 use Rattle.job_line.specs.WrittenNumber.{writtenNumber, writtenNumbers}
 use Rattle.job_pane.specs.declared.Pane.{Pane}
 use Rattle.placing.specs.Passing.{paneAt}

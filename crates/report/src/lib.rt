@@ -7,7 +7,7 @@ mod text;
 
 use job_file::Checked;
 use job_file::read_job;
-use job_part::number_of;
+use causes::number_of;
 use placing::place_panes;
 use text::write_placing;
 use text::write_refusal;

@@ -9,7 +9,7 @@ use mathlib.Core.Logic.{inl, inr}
 use mathlib.Core.Bool.{Bool, true, false}
 use native.Mathlib.Omega.{arith}
 use lib.Dec.{eqb}
-use Rattle.job_line.specs.Bytes.{if_then_else_}
+use Rattle.basics.specs.Choice.{if_then_else_}
 use Rattle.span_table.specs.Spans.{tableOf, loadOf, thicknessOf, rowOf}
 use Rattle.span_table.specs.SpanRule.{Nominal}
 

@@ -5,7 +5,7 @@ use Prim.Native.Nat.{ℕ, zero, suc, _<_}
 use mathlib.Core.Bool.{Bool, true, _&&_}
 use native.Mathlib.Omega.{arith}
 use lib.Dec.{T}
-use Rattle.job_part.proofs.Tests.{and-iff}
+use Rattle.basics.proofs.Tests.{and-iff}
 
 abbrev pub upto : ℕ → (ℕ → Bool) → Bool
 upto zero test = true

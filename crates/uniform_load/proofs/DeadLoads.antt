@@ -8,7 +8,7 @@ use mathlib.Core.List.{List, [], _∷_, map}
 use native.Mathlib.Omega.{arith}
 use lib.Dec.{T, leb, eqb, leb→le, eqb→eq}
 use lib.ListN.{getD}
-use Rattle.job_part.proofs.Tests.{and-iff}
+use Rattle.basics.proofs.Tests.{and-iff}
 use Rattle.span_table.proofs.Upto.{upto, at}
 use Rattle.uniform_load.specs.DeadLoads.{deadLoads, maxRow, minRow}
 

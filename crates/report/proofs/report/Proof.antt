@@ -7,7 +7,7 @@ use native.Mathlib.Omega.{arith}
 use lib.ListN.{length, replicate}
 use lib.Seq.{length-take-le}
 use denote.Ref.{now}
-use Rattle.job_part.specs.Cause.{numberOf}
+use Rattle.causes.specs.Cause.{numberOf}
 use Rattle.job_file.specs.File.{refused, outcomeOf}
 use Rattle.job_file.proofs.Jobs.{Job, job-read, refusal-read}
 use Rattle.job_file.proofs.Refused.{refused-within}

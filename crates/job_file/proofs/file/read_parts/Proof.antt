@@ -6,7 +6,6 @@ use mathlib.Core.Path.{_≡_}
 use lib.ListN.{length}
 use denote.Ref.{now}
 use Rattle.job_file.specs.File.{part}
-use Rattle.job_part.specs.Cause.{numberOf}
 use Rattle.job_file.proofs.Files.{part-end, parts-glass, parts-pane, parts-whole, reads-whole}
 use Rattle.job_file.proofs.file.read_parts.Statement.{statement}
 use Rattle.job_file.proofs.file.read_parts.Tie as tie
@@ -25,7 +24,7 @@ glass-stopped c =
     let s = r .before .before .before in
     let a = s .args in
     let v = k .first-end .given in
-    rw (parts-glass (now (a .file)) (a .glass) (a .pane) (a .end) (numberOf (v .0 .0)) (v .0 .1 .0)
+    rw (parts-glass (now (a .file)) (a .glass) (a .pane) (a .end) (v .0 .0) (v .0 .1 .0)
     (rw (glass-end s, v .1) at (r .read-glasses .ensures)))
     (c .refusal .ensures)
 
@@ -39,7 +38,7 @@ pane-stopped c =
     let a = s .args in
     let v = k .second-end .given in
     let first = rw (glass-end s, k₁ .first-end2 .given .1) at (r₁ .read-glasses .ensures) in
-    rw (parts-pane (now (a .file)) (a .glass) (a .pane) (a .end) _ (first .entries) (numberOf (v .0 .0)) (v .0 .1 .0)
+    rw (parts-pane (now (a .file)) (a .glass) (a .pane) (a .end) _ (first .entries) (v .0 .0) (v .0 .1 .0)
     (rw (pane-end s, v .1) at (r .read-panes .ensures)))
     (c .refusal2 .ensures)
 

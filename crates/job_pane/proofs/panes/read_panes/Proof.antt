@@ -8,11 +8,10 @@ use mathlib.Core.List.{map}
 use lib.ListN.{length, take, drop}
 use denote.Ref.{now}
 use Rattle.job_pane.specs.PaneLine.{paneForm}
-use Rattle.job_part.specs.Cause.{numberOf}
 use Rattle.job_part.specs.Part.{judged, taken}
 use Rattle.job_pane.specs.PaneLine.{blankPane}
 use Rattle.job_pane.specs.declared.Pane.{Pane}
-use Rattle.job_part.proofs.IdSets.{ids-none}
+use Rattle.ids.proofs.IdSets.{ids-none}
 use Rattle.job_part.proofs.Kept.{taken-was}
 use Rattle.job_part.proofs.Parts.{Progress, progress-begin, progress-taken, progress-many, progress-faulty, progress-end}
 use Rattle.job_pane.proofs.Values.{allowed-id}
@@ -42,7 +41,7 @@ faulty c =
     let e = r .before .before in
     let l = e .before .before .loop in
     let a = e .before .before .before .before .args in
-    progress-faulty paneForm blankPane (now (a .part)) (a .offset) (l .panes) (l .seen) (l .n) (l .at) (l .inv) (numberOf (v .0 .0)) (omega arith) (room e)
+    progress-faulty paneForm blankPane (now (a .part)) (a .offset) (l .panes) (l .seen) (l .n) (l .at) (l .inv) ((v .0 .0)) (omega arith) (room e)
     (rw (v .1) at (r .read-pane .ensures _ (l .inv .ids)))
 
 -- where the line was read that is now taken, and what it says

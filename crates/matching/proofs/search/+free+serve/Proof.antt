@@ -9,7 +9,7 @@ use mathlib.Core.Path.{_≡_, refl, ap, sym, subst, _∙_}
 use mathlib.Core.Bool.{true, false}
 use mathlib.Core.List.{List}
 use lib.ListN.{length, getD, length-set}
-use Rattle.ranges.proofs.Tests.{differ}
+use Rattle.basics.proofs.Tests.{differ}
 use Rattle.glass_set.specs.Member.{has, unvisited}
 use Rattle.matching.specs.Steps.{Grown}
 use Rattle.glass_set.proofs.Members.{unvisited-le}

@@ -5,23 +5,21 @@ use native.Mathlib.Nat.{add-zero}
 use native.Mathlib.Omega.{arith}
 use mathlib.Core.Path.{_≡_, refl, sym, _∙_}
 use lib.Dec.{eqb}
-use lib.ListN.{length, getD, set, take, length-set}
+use lib.ListN.{length, getD, set, take, length-set, List·getD-eq-default}
 use lib.Seq.{take-all}
-use Rattle.job_line.specs.Bytes.{if_then_else_}
+use Rattle.basics.specs.Choice.{if_then_else_}
 use denote.Ref.{now}
-use Rattle.placing.specs.Passing.{glassAt}
 use Rattle.placing.specs.Steps.{Answered}
-use Rattle.placing.proofs.Numbers.{id-past}
 use Rattle.placing.proofs.Writes.{answered-none, answered-next, answered-le}
 use Rattle.placing.proofs.answers.write_answers.Statement.{statement}
 use Rattle.placing.proofs.answers.write_answers.Tie as tie
 
 abbrev Inv-loop : tie.InvT-loop
-Inv-loop held answers₀ glasses placed₀ next₀ answers placed next =
-    (next ≤ length held) × (length answers ≡ length answers₀) × Answered glasses (take next held) answers₀ answers placed
+Inv-loop held answers₀ ids placed₀ next₀ answers placed next =
+    (next ≤ length held) × (length answers ≡ length answers₀) × Answered ids (take next held) answers₀ answers placed
 
 abbrev μ-loop : tie.MeasureT-loop
-μ-loop held answers₀ glasses placed₀ next₀ answers placed next = length held - next
+μ-loop held answers₀ ids placed₀ next₀ answers placed next = length held - next
 
 loop-holds : tie.Need-loop-holds Inv-loop μ-loop
 loop-holds c =
@@ -32,13 +30,13 @@ loop-holds c =
 -- A pane with a glass has been answered.
 answered :
     (c : tie.After-one-unless-zero Inv-loop μ-loop) →
-    let l = c .before .before .before .before .before in
+    let l = c .before .before .before .before in
     let a = l .before .before .before .args in
-    let id = glassAt (a .t2) (getD (now (a .held)) (l .loop .next) 0) .id in
+    let id = getD (a .t2) (getD (now (a .held)) (l .loop .next) 0) 0 in
     Answered (a .t2) (take (l .loop .next + 1) (now (a .held))) (now (a .answers)) (set (l .loop .answers) (l .loop .next) id)
     (l .loop .placed + (if eqb id 0 then 0 else 1))
 answered c =
-    let l = c .before .before .before .before .before in
+    let l = c .before .before .before .before in
     let s = l .before .before .before in
     let a = s .args in
     answered-next (a .t2) (now (a .held)) (now (a .answers)) (s .pre) (l .loop .next) (l .loop .answers) (l .loop .placed) _
@@ -46,7 +44,7 @@ answered c =
 
 add-placed : tie.Need-add-placed Inv-loop μ-loop
 add-placed c =
-    let l = c .before .before .before .before .before in
+    let l = c .before .before .before .before in
     let s = l .before .before .before in
     let a = s .args in
     let most =
@@ -55,9 +53,9 @@ add-placed c =
 
 with-glass : tie.Need-loop-again Inv-loop μ-loop
 with-glass c =
-    let l = c .before .before .before .before .before in
+    let l = c .before .before .before .before in
     let a = l .before .before .before .args in
-    let id = glassAt (a .t2) (getD (now (a .held)) (l .loop .next) 0) .id in (
+    let id = getD (a .t2) (getD (now (a .held)) (l .loop .next) 0) 0 in (
       omega arith,
       length-set (l .loop .answers) (l .loop .next) id ∙ l .loop .inv .1,
       rw (c .one-unless-zero .ensures) (answered c),
@@ -69,7 +67,8 @@ without-glass c =
     let s = l .before .before .before in
     let a = s .args in
     let long : length (a .t2) ≡ 64 = search needs in
-    let none = id-past (a .t2) (getD (now (a .held)) (l .loop .next) 0) (omega arith) in
+    let past : length (a .t2) ≤ getD (now (a .held)) (l .loop .next) 0 = omega arith in
+    let none = List·getD-eq-default (a .t2) 0 past in
     let next =
     answered-next (a .t2) (now (a .held)) (now (a .answers)) (s .pre) (l .loop .next) (l .loop .answers) (l .loop .placed) 0
     (omega arith) (sym none) (l .loop .inv .2) in (
@@ -98,7 +97,7 @@ write-answers-spec =
     (λ c. search needs)
     (λ c. search needs)
     (λ c. search needs)
-    (λ c. let l = c .before .before .before .before in omega (arith, l .loop .inv .1, l .before .before .before .pre))
+    (λ c. let l = c .before .before .before in omega (arith, l .loop .inv .1, l .before .before .before .pre))
     (λ c κs. search needs)
     add-placed
     (λ c. omega arith)

@@ -1,10 +1,10 @@
--- The ids of the lines read so far, as a set of bits: the id n is bit n % 64 of word n / 64.
+-- A set of ids, as bits: the id n is bit n % 64 of word n / 64.
 use Prim.Native.Nat.{ℕ, _/_, _%_}
 use mathlib.Core.Path.{_≡_}
 use mathlib.Core.List.{List}
 use lib.ListN.{length, getD}
 use Rattle.bits.specs.Bit.{has}
-use Rattle.job_part.specs.Part.{among}
+use Rattle.ids.specs.Ids.{among}
 
 -- A set of the ids of a list, in words enough for every id up to 9999.
 pub record IdSet (seen ids : List ℕ) : Type 0 where

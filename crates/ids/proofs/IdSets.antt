@@ -13,9 +13,9 @@ use lib.ListN.{getD, set, replicate, length-set, length-replicate}
 use lib.Seq.{getD-set-same, getD-set-other}
 use Rattle.bits.specs.Bit.{has}
 use Rattle.bits.proofs.Bits.{has-none, has-or, has-one}
-use Rattle.job_part.specs.IdSets.{IdSet}
-use Rattle.job_part.specs.Part.{among}
-use Rattle.job_part.proofs.Members.{among-append}
+use Rattle.ids.specs.IdSets.{IdSet}
+use Rattle.ids.specs.Ids.{among}
+use Rattle.ids.proofs.Members.{among-append}
 
 zeros-at : (n i : ℕ) → _≡_ {A = ℕ} (getD (replicate n 0) i 0) 0
 zeros-at zero i = refl

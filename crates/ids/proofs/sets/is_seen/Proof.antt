@@ -1,9 +1,9 @@
--- `ids::is_seen` meets its contract: the lowest bit of the shifted word is the id's.
+-- `sets::is_seen` meets its contract: the lowest bit of the shifted word is the id's.
 use borrow.Author.Needs.{needs}
 use lib.Bits.{and-mask}
 use Rattle.bits.specs.Bit.{has}
-use Rattle.job_part.proofs.ids.is_seen.Statement.{statement}
-use Rattle.job_part.proofs.ids.is_seen.Tie as tie
+use Rattle.ids.proofs.sets.is_seen.Statement.{statement}
+use Rattle.ids.proofs.sets.is_seen.Tie as tie
 
 pub is-seen-spec : {M : Type 1} → statement M
 unfolding has

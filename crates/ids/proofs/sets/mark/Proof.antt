@@ -1,9 +1,9 @@
--- `ids::mark` meets its contract: a bit of `|` is set where one of them is, and the other words stay.
+-- `sets::mark` meets its contract: a bit of `|` is set where one of them is, and the other words stay.
 use borrow.Author.Needs.{needs}
 use denote.Ref.{now}
-use Rattle.job_part.proofs.IdSets.{ids-more}
-use Rattle.job_part.proofs.ids.mark.Statement.{statement}
-use Rattle.job_part.proofs.ids.mark.Tie as tie
+use Rattle.ids.proofs.IdSets.{ids-more}
+use Rattle.ids.proofs.sets.mark.Statement.{statement}
+use Rattle.ids.proofs.sets.mark.Tie as tie
 
 pub mark-spec : {M : Type 1} → statement M
 mark-spec =

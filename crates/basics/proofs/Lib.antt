@@ -1,0 +1,2 @@
+-- Tests, and numbers by whether they are equal.
+pub mod Tests

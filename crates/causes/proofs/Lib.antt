@@ -1,0 +1,2 @@
+-- What holds of the number of every cause.
+pub mod Numbers

@@ -1,0 +1,2 @@
+-- Document 01, "What each cause gives": the causes and their numbers.
+pub mod Cause

@@ -1,0 +1,39 @@
+// Why a call is refused: document 01, "What each cause gives". The numbers of refusals stand here and nowhere else in the code.
+ghost use mathlib.Core.Path.{_≡_};
+ghost use Rattle.causes.specs.Cause.{numberOf};
+
+// A cause of document 01's table, in its order. Requests add theirs at the end, with the numbers 12 to 19.
+pub enum Cause {
+    // of the file
+    FileLength,
+    NoTrailer,
+    PartOffsets,
+    LineForm,
+    NumberValue,
+    RepeatedId,
+    TooLong,
+    TooManyLines,
+    // of what comes with it: a lent list shorter than the number of panes, an id that the file does not have
+    ListTooShort,
+    NoPane,
+    NoGlass,
+}
+
+// A cause's number.
+pub fn number_of(cause: Cause) -> u32
+    ensures { λ r. ⌜ r ≡ numberOf cause ⌝ }
+{
+    match cause {
+        Cause::FileLength => 1,
+        Cause::NoTrailer => 2,
+        Cause::PartOffsets => 3,
+        Cause::LineForm => 4,
+        Cause::NumberValue => 5,
+        Cause::RepeatedId => 6,
+        Cause::TooLong => 7,
+        Cause::TooManyLines => 8,
+        Cause::ListTooShort => 9,
+        Cause::NoPane => 10,
+        Cause::NoGlass => 11,
+    }
+}

@@ -1,0 +1,6 @@
+-- Lists of ids.
+pub mod Members
+pub mod Distinct
+-- The place of an id in a list, and sets of ids.
+pub mod Lookups
+pub mod IdSets
