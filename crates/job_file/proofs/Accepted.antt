@@ -8,16 +8,17 @@
 --     glass-ids, pane-ids          no two glasses, and no two panes, have one id
 use Prim.Native.Nat.{ℕ, _-_, _≤_, _<_}
 use mathlib.Core.Path.{_≡_, refl}
-use mathlib.Core.Bool.{Bool, true, false, not, _&&_, _||_}
+use mathlib.Core.Bool.{Bool, true, false, _&&_, _||_}
 use mathlib.Core.List.{List}
 use lib.Dec.{leb, ltb}
 use lib.ListN.{length, getD, drop}
 use borrow.Author.Tests.{ltb-false, leb-true, le-ltb, le-leb}
-use Rattle.causes.specs.declared.Cause.the-variants.{NoTrailer, PartOffsets}
+use Rattle.causes.specs.declared.Cause.{Cause}
+use Rattle.causes.specs.declared.Cause.the-variants.{FileLength, NoTrailer, PartOffsets}
 use Rattle.basics.specs.Choice.{if_then_else_}
 use Rattle.job_part.specs.Part.{Lines, whole, stopped, partLines}
 use Rattle.job_glass.specs.GlassLine.{glassForm, allowedGlass}
-use Rattle.job_pane.specs.PaneLine.{paneForm, allowedPane, tooLongPane}
+use Rattle.job_pane.specs.PaneLine.{paneForm, allowedPane}
 use Rattle.job_glass.specs.GlassLine.{blankGlass}
 use Rattle.job_pane.specs.PaneLine.{blankPane}
 use Rattle.job_glass.specs.Values.{GlassValues}
@@ -45,7 +46,7 @@ pub record Accepted (file : List ℕ) (glasses : List Glass) (panes : List Pane)
   pub pane-part : partLines paneForm (length file - 14) (part file pane (length file - 14)) ≡ whole panes
 
 -- Of an accepted file, no test was refused: both of two that must pass did, and neither of two that must fail did.
-module _ (gs : List Glass) (ps : List Pane) (cause at : ℕ) where
+module _ (gs : List Glass) (ps : List Pane) (cause : Cause) (at : ℕ) where
   both-pass :
       (a b : Bool) (o : Outcome) →
       (if a && b then o else refused cause at) ≡ accepted gs ps → (a ≡ true) × (b ≡ true) × (o ≡ accepted gs ps)
@@ -88,7 +89,7 @@ module _ (file : List ℕ) (gs : List Glass) (ps : List Pane) where
   unfolding outcomeOf
   accepted-was e =
       let end : ℕ = length file - 14 in
-      let l = both-fail gs ps 1 0 (ltb (length file) 14) (ltb 65535 (length file)) _ e in
+      let l = both-fail gs ps FileLength 0 (ltb (length file) 14) (ltb 65535 (length file)) _ e in
       go (ltb-false (length file) 14 (l .0)) (ltb-false 65535 (length file) (l .1)) (trailer (drop end file)) refl (l .2)
     where
       go :
@@ -103,7 +104,7 @@ module _ (file : List ℕ) (gs : List Glass) (ps : List Pane) where
           ] ≡ accepted gs ps →
           Accepted file gs ps
       go short long (offsets glass pane) q f =
-          let b = both-pass gs ps 3 (length file - 14) (leb glass pane) (leb pane (length file - 14)) _ f in
+          let b = both-pass gs ps PartOffsets (length file - 14) (leb glass pane) (leb pane (length file - 14)) _ f in
           let p = parts-were glass pane (length file - 14) (b .2) in
           record {
             shortest = short;
@@ -154,9 +155,7 @@ module _ {gs : List Glass} {ps : List Pane} (rules : Rules gs ps) where
 
   pub pane-values : (i : ℕ) → i < length ps → PaneValues (getD ps i blankPane)
   pane-values i l =
-      allowed-pane (getD ps i blankPane)
-      (every-at allowedPane ps blankPane i (rules .of-panes .allowed) l)
-      (every-at (λ p. not (tooLongPane p)) ps blankPane i (rules .of-panes .in-proportion) l)
+      allowed-pane (getD ps i blankPane) (every-at allowedPane ps blankPane i (rules .of-panes .allowed) l)
 
   pub glass-ids : (i j : ℕ) → i < j → j < length gs → getD gs i blankGlass .id ≡ getD gs j blankGlass .id → ⊥
   glass-ids i j = ids-at glassForm blankGlass gs i j refl (rules .of-glasses)

@@ -12,6 +12,7 @@ use native.Mathlib.Omega.{arith}
 use lib.ListN.{length, take, drop, length-take, length-drop, take-append-drop}
 use lib.Seq.{take-all, length-take-le}
 use borrow.Author.Tests.{lt-ltb, le-ltb, le-leb, lt-leb}
+use Rattle.causes.specs.declared.Cause.{Cause}
 use Rattle.causes.specs.declared.Cause.the-variants.{FileLength, NoTrailer, PartOffsets}
 use Rattle.job_part.specs.Part.{Lines, whole, stopped, partLines}
 use Rattle.job_glass.specs.GlassLine.{glassForm}
@@ -87,9 +88,13 @@ module _ {A : Type 0} (size : ℕ) (blank : A) (d : Lines A) (xs : List A) (n : 
 
 pub reads-whole : (dg : Lines Glass) (dp : Lines Pane) (gs : List Glass) (ps : List Pane) (n m : ℕ)
     → PartWhole 64 blankGlass dg gs n → PartWhole 256 blankPane dp ps m
-    → Reads (accepted (take n gs) (take m ps)) (record { checked = Accepted n m; glasses = gs; panes = ps })
-reads-whole dg dp gs ps n m g p = record {
-  answer = ap₂ accepts (count-whole 64 blankGlass dg gs n g) (count-whole 256 blankPane dp ps m p);
-  glasses = padded-whole 64 blankGlass dg gs n g;
-  panes = padded-whole 256 blankPane dp ps m p;
-}
+    → Reads (accepted (take n gs) (take m ps)) (record {
+      checked = Accepted n m;
+      job = record { glasses = gs; «glass_count» = n; panes = ps; «pane_count» = m };
+    })
+reads-whole dg dp gs ps n m g p =
+    let glasses = count-whole 64 blankGlass dg gs n g in
+    let panes = count-whole 256 blankPane dp ps m p in
+    let glassArray = padded-whole 64 blankGlass dg gs n g in
+    let paneArray = padded-whole 256 blankPane dp ps m p in
+    record { answer = ap₂ accepts glasses panes; job = cc }

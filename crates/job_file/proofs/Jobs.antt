@@ -1,54 +1,106 @@
--- What a caller of `read_job` knows of its result, by the case of its answer: each list is the front of its array, as long as
--- the answer says.
---     Job, job-read     an accepted file's lists, which keep the rules
---     refusal-read      a refused file's cause and offset
-use Prim.Native.Nat.{ℕ}
-use mathlib.Core.Path.{_≡_, refl, ap, sym, _∙_}
+-- What a caller of `read_job` knows of its answer, and of the job where the file is accepted.
+--     JobOf, job-read             an accepted file: its lists are those of the job, which keeps the rules
+--     refusal-read                a refused file: the cause and its offset
+--     glass-count, pane-count     the counts of a job are the lengths of its lists
+--     few-glasses, few-panes      the lists are within their arrays
+--     glasses-long, panes-long    which have 64 and 256 entries
+--     glass-at, pane-at           a glass and a pane of a job are of allowed values
+use Prim.Native.Nat.{ℕ, _≤_, _<_}
+use mathlib.Core.Path.{_≡_, refl, ap, sym, subst, _∙_}
 use mathlib.Core.List.{List}
-use lib.ListN.{length, take}
-use lib.Seq.{take-at}
-use Rattle.causes.specs.Cause.{numberOf}
-use Rattle.job_part.specs.Arrays.{padded}
-use Rattle.causes.specs.declared.Cause.{Cause}
+use native.Mathlib.Omega.{arith}
+use lib.ListN.{length, length-append, length-replicate}
+use lib.Seq.{take-at, getD-take}
 use Rattle.basics.proofs.Tests.{clash}
+use Rattle.causes.specs.Cause.{numberOf}
+use Rattle.causes.specs.declared.Cause.{Cause}
+use Rattle.causes.proofs.Numbers.{same-cause}
+use Rattle.job_part.specs.Arrays.{padded}
+use Rattle.job_glass.specs.GlassLine.{blankGlass}
+use Rattle.job_glass.specs.Values.{GlassValues}
+use Rattle.job_glass.specs.declared.Glass.{Glass}
+use Rattle.job_pane.specs.PaneLine.{blankPane}
+use Rattle.job_pane.specs.Values.{PaneValues}
+use Rattle.job_pane.specs.declared.Pane.{Pane}
 use Rattle.job_file.specs.File.{Outcome, accepted, refused, outcomeOf}
+use Rattle.job_file.specs.Job.{jobOf, glassesOf, panesOf, glassAt, paneAt}
 use Rattle.job_file.specs.Answer.{refuses, says, answerOf, Reads}
-use Rattle.job_file.specs.Rules.{AtFront}
+use Rattle.job_file.specs.Rules.{ReadJob}
+use Rattle.job_file.specs.declared.job.Job.{Job}
 use Rattle.job_file.specs.declared.Checked.the-variants.{Accepted, Refused}
 use Rattle.job_file.specs.declared.Reading.{Reading}
-use Rattle.job_file.proofs.Accepted.{accepted-rules}
+use Rattle.job_file.proofs.Accepted.{accepted-rules, glass-values, pane-values}
 
-pub record Job (file : List ℕ) (r : Reading) (glasses panes : ℕ) : Type 0 where
-  pub outcome : outcomeOf file ≡ accepted (take glasses (r .glasses)) (take panes (r .panes))
-  pub lists : AtFront (r .glasses) glasses (r .panes) panes
+padded-long : {A : Type 0} (size : ℕ) (blank : A) (xs : List A) → length xs ≤ size → length (padded size blank xs) ≡ size
+padded-long size blank xs l = rw (length-append, length-replicate) (omega arith)
 
--- The list at the front of a padded array.
-front : {A : Type 0} (size n : ℕ) (blank : A) (xs array : List A) → array ≡ padded size blank xs → n ≡ length xs → take n array ≡ xs
-front size n blank xs array is long = rw is (take-at xs _ n (sym long))
+pub record JobOf (file : List ℕ) (job : Job) : Type 0 where
+  pub outcome : outcomeOf file ≡ accepted (glassesOf job) (panesOf job)
+  pub read : ReadJob job
 
-pub job-read : (file : List ℕ) (r : Reading) (glasses panes : ℕ) → Reads (outcomeOf file) r → r .checked ≡ Accepted glasses panes → Job file r glasses panes
+-- The lists of the job of some lists are these.
+job-lists :
+    (job : Job) (gs : List Glass) (ps : List Pane) → job ≡ jobOf gs ps → (glassesOf job ≡ gs) × (panesOf job ≡ ps)
+job-lists job gs ps is = (
+  rw is (take-at gs _ (length gs) refl),
+  rw is (take-at ps _ (length ps) refl),
+)
+
+pub job-read :
+    (file : List ℕ) (r : Reading) (n m : ℕ) → Reads (outcomeOf file) r → r .checked ≡ Accepted n m → JobOf file (r .job)
 job-read file r n m reads case = go (outcomeOf file) refl reads
   where
-    go : (o : Outcome) → outcomeOf file ≡ o → Reads o r → Job file r n m
+    go : (o : Outcome) → outcomeOf file ≡ o → Reads o r → JobOf file (r .job)
     go (accepted gs ps) is reads =
-        let answer = ap says (sym case) ∙ reads .answer in
-        let glasses : n ≡ length gs = cc in
-        let panes : m ≡ length ps = cc in
-        let first = front 64 n _ gs (r .glasses) (reads .glasses) glasses in
-        let second = front 256 m _ ps (r .panes) (reads .panes) panes in
+        let lists = job-lists (r .job) gs ps (reads .job) in
         record {
-          outcome = rw (first, second) is;
-          lists = record {
-            glass-count = rw first (sym glasses);
-            pane-count = rw second (sym panes);
-            rules = rw (first, second) (accepted-rules file gs ps is);
+          outcome = rw (lists .0, lists .1) is;
+          read = record {
+            rules = rw (lists .0, lists .1) (accepted-rules file gs ps is);
+            is-job = rw (lists .0, lists .1) (reads .job);
           };
         }
     go (refused cause at) is reads = let answer = ap says (sym case) ∙ reads .answer in clash (cc)
 
-pub refusal-read : (file : List ℕ) (r : Reading) (cause : Cause) (offset : ℕ) → Reads (outcomeOf file) r → r .checked ≡ Refused cause offset → outcomeOf file ≡ refused cause offset
+pub refusal-read :
+    (file : List ℕ) (r : Reading) (cause : Cause) (offset : ℕ) →
+    Reads (outcomeOf file) r → r .checked ≡ Refused cause offset → outcomeOf file ≡ refused cause offset
 refusal-read file r cause offset reads case = go (outcomeOf file) (ap says (sym case) ∙ reads .answer)
   where
-    go : (o : Outcome) → refuses cause offset ≡ answerOf o → o ≡ refused cause offset
+    go : (o : Outcome) → refuses (numberOf cause) offset ≡ answerOf o → o ≡ refused cause offset
     go (accepted gs ps) e = clash (cc)
-    go (refused n at) e = cc
+    go (refused other at) e =
+        let numbers : numberOf cause ≡ numberOf other = cc in
+        let same = same-cause cause other numbers in
+        cc
+
+module _ (job : Job) (r : ReadJob job) where
+  pub glass-count : job .«glass_count» ≡ length (glassesOf job)
+  glass-count = ap (λ (j : Job). j .«glass_count») (r .is-job)
+
+  pub pane-count : job .«pane_count» ≡ length (panesOf job)
+  pane-count = ap (λ (j : Job). j .«pane_count») (r .is-job)
+
+  pub few-glasses : job .«glass_count» ≤ 64
+  few-glasses = omega (arith, glass-count, r .rules .of-glasses .at-most)
+
+  pub few-panes : job .«pane_count» ≤ 256
+  few-panes = omega (arith, pane-count, r .rules .of-panes .at-most)
+
+  pub glasses-long : length (job .glasses) ≡ 64
+  glasses-long =
+      ap (λ (j : Job). length (j .glasses)) (r .is-job) ∙ padded-long 64 blankGlass (glassesOf job) (r .rules .of-glasses .at-most)
+
+  pub panes-long : length (job .panes) ≡ 256
+  panes-long =
+      ap (λ (j : Job). length (j .panes)) (r .is-job) ∙ padded-long 256 blankPane (panesOf job) (r .rules .of-panes .at-most)
+
+  pub glass-at : (g : ℕ) → g < job .«glass_count» → GlassValues (glassAt (job .glasses) g)
+  glass-at g l =
+      subst GlassValues (getD-take (job .«glass_count») (job .glasses) g blankGlass l)
+      (glass-values (r .rules) g (omega (arith, glass-count)))
+
+  pub pane-at : (p : ℕ) → p < job .«pane_count» → PaneValues (paneAt (job .panes) p)
+  pane-at p l =
+      subst PaneValues (getD-take (job .«pane_count») (job .panes) p blankPane l)
+      (pane-values (r .rules) p (omega (arith, pane-count)))

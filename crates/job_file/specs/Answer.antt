@@ -1,15 +1,12 @@
 -- Document 01, "What each cause gives": the number and the values of each case of the reader's answers.
 use Prim.Native.Nat.{ℕ}
 use mathlib.Core.Path.{_≡_}
-use mathlib.Core.List.{List, []}
+use mathlib.Core.List.{[]}
 use lib.ListN.{length}
-use Rattle.job_file.specs.File.{Outcome, accepted, refused}
 use Rattle.causes.specs.Cause.{numberOf}
-use Rattle.job_glass.specs.GlassLine.{blankGlass}
-use Rattle.job_pane.specs.PaneLine.{blankPane}
-use Rattle.job_part.specs.Arrays.{padded}
-use Rattle.job_glass.specs.declared.Glass.{Glass}
-use Rattle.job_pane.specs.declared.Pane.{Pane}
+use Rattle.job_file.specs.File.{Outcome, accepted, refused}
+use Rattle.job_file.specs.Job.{jobOf}
+use Rattle.job_file.specs.declared.job.Job.{Job}
 use Rattle.job_file.specs.declared.Checked.{Checked}
 use Rattle.job_file.specs.declared.Checked.the-variants.{Accepted, Refused}
 use Rattle.job_file.specs.declared.Reading.{Reading}
@@ -30,17 +27,12 @@ abbrev pub answerOf : Outcome → Answer
 answerOf (accepted glasses panes) = accepts (length glasses) (length panes)
 answerOf (refused cause offset) = refuses (numberOf cause) offset
 
--- The glasses and the panes of an outcome: none of a refused file.
-abbrev pub glassesOf : Outcome → List Glass
-glassesOf (accepted glasses panes) = glasses
-glassesOf (refused cause offset) = []
+-- The job that a file should have: of a refused file, one with no glass and no pane.
+abbrev pub jobIn : Outcome → Job
+jobIn (accepted glasses panes) = jobOf glasses panes
+jobIn (refused cause offset) = jobOf [] []
 
-abbrev pub panesOf : Outcome → List Pane
-panesOf (accepted glasses panes) = panes
-panesOf (refused cause offset) = []
-
--- What reading gives: the answer, and the glasses and panes in file order at the front of their arrays.
+-- What reading gives: the answer and the job.
 pub record Reads (outcome : Outcome) (r : Reading) : Type 0 where
   pub answer : says (r .checked) ≡ answerOf outcome
-  pub glasses : r .glasses ≡ padded 64 blankGlass (glassesOf outcome)
-  pub panes : r .panes ≡ padded 256 blankPane (panesOf outcome)
+  pub job : r .job ≡ jobIn outcome

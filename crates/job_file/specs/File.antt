@@ -7,6 +7,7 @@ use mathlib.Core.Bool.{_&&_, _||_}
 use mathlib.Core.List.{List}
 use lib.Dec.{leb, ltb, eqb}
 use lib.ListN.{length, take, drop}
+use Rattle.causes.specs.declared.Cause.{Cause}
 use Rattle.causes.specs.declared.Cause.the-variants.{FileLength, NoTrailer, PartOffsets}
 use Rattle.basics.specs.Choice.{if_then_else_}
 use Rattle.job_line.specs.Bytes.{newline, space, letterT, next, after, Found, found, nothing}

@@ -1,6 +1,7 @@
 // The whole file: specs/File.antt.
 use crate::Checked;
 use crate::Reading;
+use crate::job::Job;
 use crate::trailer::Offsets;
 use crate::trailer::read_trailer;
 use job_glass::NO_GLASS;
@@ -14,7 +15,7 @@ ghost use lib.ListN.{length};
 ghost use Rattle.job_file.specs.File.{outcomeOf, partsOutcome, refused};
 ghost use Rattle.job_file.specs.Answer.{Reads};
 
-// The glasses and the panes of a file, or the first cause against it.
+// The job of a file, or the first cause against it.
 pub fn read_job(file: &[u8]) -> Reading
     ensures { λ r. ⌜ Reads (outcomeOf (now (file .entry))) r ⌝ }
 {
@@ -57,13 +58,18 @@ fn read_parts(file: &[u8], glass: usize, pane: usize, end: usize) -> Reading
                 PartEnd::Whole(pane_count) => {
                     let glasses = first.glasses;
                     let panes = second.panes;
+                    let job = Job {
+                        glasses,
+                        glass_count,
+                        panes,
+                        pane_count,
+                    };
                     Reading {
                         checked: Checked::Accepted {
-                            glasses: glass_count,
-                            panes: pane_count,
+                            glass_count,
+                            pane_count,
                         },
-                        glasses,
-                        panes,
+                        job,
                     }
                 }
             }
@@ -77,9 +83,14 @@ fn refusal(cause: Cause, offset: usize) -> Reading
 {
     let glasses = [NO_GLASS; 64];
     let panes = [NO_PANE; 256];
+    let job = Job {
+        glasses,
+        glass_count: 0,
+        panes,
+        pane_count: 0,
+    };
     Reading {
         checked: Checked::Refused { cause, offset },
-        glasses,
-        panes,
+        job,
     }
 }

@@ -1,30 +1,31 @@
 // The reader of a job file: document 01, "The job file" and "What each cause gives".
 //
-// `check` says whether a file is accepted, and `read_job` gives its glasses and panes too. Both answer for every list of
-// bytes, as specs/File.antt defines.
+// `check` says whether a file is accepted, and `read_job` gives its job too. Both answer for every list of bytes, as
+// specs/File.antt defines.
 mod file;
+mod job;
 mod trailer;
 
-pub use file::read_job;
-use job_glass::Glass;
-use job_pane::Pane;
 use causes::Cause;
+pub use file::read_job;
+pub use job::Job;
+pub use job::glass_ids_of;
+pub use job::pane_ids_of;
+pub use job::stocks_of;
 ghost use mathlib.Core.Path.{_≡_};
 ghost use Rattle.job_file.specs.File.{outcomeOf};
 ghost use Rattle.job_file.specs.Answer.{says, answerOf};
 
 // The answer to a check: how many glasses and panes the file has, or why and where it is refused.
 pub enum Checked {
-    Accepted { glasses: usize, panes: usize },
+    Accepted { glass_count: usize, pane_count: usize },
     Refused { cause: Cause, offset: usize },
 }
 
-// A file that was read. The glasses and the panes of an accepted file stand in file order at the front of the arrays; every
-// other entry is of zeros.
+// A file that was read: the answer to its check, and its job, which has no glass and no pane where the file is refused.
 pub struct Reading {
     pub checked: Checked,
-    pub glasses: [Glass; 64],
-    pub panes: [Pane; 256],
+    pub job: Job,
 }
 
 // Whether a file is accepted.

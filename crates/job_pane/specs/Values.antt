@@ -1,10 +1,10 @@
 -- What the layers above may count on of a pane of an accepted file.
-use Prim.Native.Nat.{_*_, _≤_, min, max}
+use Prim.Native.Nat.{_≤_}
 use mathlib.Core.Path.{_≡_}
 use mathlib.Core.Logic.{_⊎_}
 use Rattle.job_pane.specs.declared.Pane.{Pane}
 
--- The allowed values of a pane, as bounds, and the proportion of a four-edge pane.
+-- The allowed values of a pane, as bounds.
 pub record PaneValues (p : Pane) : Type 0 where
   pub id-low : 1 ≤ p .id
   pub id-high : p .id ≤ 9999
@@ -18,4 +18,3 @@ pub record PaneValues (p : Pane) : Type 0 where
   pub h-high : p .h ≤ 5000
   pub down-high : p .down ≤ 1000
   pub up-high : p .up ≤ 1000
-  pub proportion : p .edges ≡ 4 → max (p .w) (p .h) ≤ 3 * min (p .w) (p .h)

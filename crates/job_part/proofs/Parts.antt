@@ -11,6 +11,7 @@ use native.Mathlib.Numerals.{add-one}
 use native.Mathlib.Omega.{arith}
 use lib.ListN.{length, take, drop, set, replicate, length-drop, length-set, length-replicate}
 use lib.Seq.{take-suc-set, drop-set-lt, drop-drop}
+use Rattle.causes.specs.declared.Cause.{Cause}
 use Rattle.causes.specs.declared.Cause.the-variants.{TooManyLines}
 use Rattle.job_part.specs.Arrays.{PartWhole}
 use Rattle.ids.specs.IdSets.{IdSet}

@@ -2,10 +2,12 @@
 -- "What each cause gives": "lines in file order, and within a line 8, 4, 5, 6, 7".
 -- The two parts differ in what a `Form` has, and in nothing else.
 use Prim.Native.Nat.{ℕ, zero, suc, _-_}
-use mathlib.Core.Bool.{Bool, false, not, _&&_, _||_}
+use mathlib.Core.Bool.{Bool, not, _&&_}
 use mathlib.Core.List.{List, [], _∷_, _++_, map}
-use lib.Dec.{leb, eqb}
+use lib.Dec.{leb}
 use lib.ListN.{length}
+use Rattle.causes.specs.declared.Cause.{Cause}
+use Rattle.ids.specs.Ids.{among}
 use Rattle.causes.specs.declared.Cause.the-variants.{LineForm, NumberValue, RepeatedId, TooLong, TooManyLines}
 use Rattle.basics.specs.Choice.{if_then_else_}
 use Rattle.job_line.specs.Bytes.{found, nothing}

@@ -4,7 +4,7 @@ use mathlib.Core.Bool.{Bool, not}
 use mathlib.Core.List.{List, [], _∷_, map}
 use lib.Dec.{T}
 use lib.ListN.{length}
-use Rattle.ids.specs.Ids.{among}
+use Rattle.ids.specs.Ids.{Distinct}
 use Rattle.job_part.specs.Part.{Form}
 
 -- A test holds of every entry of a list. `T b` says that the test `b` holds.
