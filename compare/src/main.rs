@@ -1,13 +1,8 @@
 //! The runner: compares the proved library with the second implementation.
-#![deny(unsafe_code)]
+#![forbid(unsafe_code)]
 
-#[allow(unsafe_code)]
-mod library;
-#[forbid(unsafe_code)]
 mod one_file;
-#[forbid(unsafe_code)]
 mod program;
-#[forbid(unsafe_code)]
 mod runner;
 
 use compare::generator::generate;

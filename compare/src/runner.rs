@@ -1,7 +1,7 @@
 //! Compares the files of a seed on all cores, and tells how far it is and what differs.
 
-use crate::library::Bordavina;
 use crate::program::Canopy;
+use compare::calls::Bordavina;
 use compare::comparison::compare;
 use compare::generator::{generate, Kind};
 use compare::outcome::Outcome;

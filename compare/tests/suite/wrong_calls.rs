@@ -2,7 +2,8 @@
 
 use crate::jobs::{EXAMPLE_J, SHORT_JOB};
 use crate::reference::Reference;
-use compare::calls::{CheckAnswer, Library, PlaceAnswer, VerdictAnswer, TEXT_SIZE};
+use compare::bordavina::{CheckResult, PlaceResult, VerdictResult, TEXT_SIZE};
+use compare::calls::Library;
 use compare::comparison::{compare, TEXT_LEFT, TEXT_WITHIN};
 use compare::place_call::{ACCEPTED, ANSWERS_LEFT, GROUP_LEFT, REFUSED};
 use compare::random::Random;
@@ -10,9 +11,9 @@ use compare::refusal::{NO_GLASS, NO_PANE, SHORT_LIST};
 use compare::rules::{GROUP, PLACED, STOCK, WANTED};
 use compare::text::FORM;
 
-type AlterCheck = fn(&mut CheckAnswer);
-type AlterVerdict = fn(&mut VerdictAnswer);
-type AlterPlace = fn(&mut PlaceAnswer, &mut [u32], &mut [u32]);
+type AlterCheck = fn(&mut CheckResult);
+type AlterVerdict = fn(&mut VerdictResult);
+type AlterPlace = fn(&mut PlaceResult, &mut [u32], &mut [u32]);
 type AlterReport = fn(&mut usize, &mut [u8; TEXT_SIZE]);
 
 /// The right library, altered in its answers.
@@ -25,19 +26,19 @@ struct Altered {
 }
 
 impl Library for Altered {
-    fn check(&self, file: &[u8]) -> CheckAnswer {
+    fn check(&self, file: &[u8]) -> CheckResult {
         let mut answer = Reference.check(file);
         self.check.inspect(|alter| alter(&mut answer));
         answer
     }
 
-    fn verdict(&self, file: &[u8], pane: u32, glass: u32) -> VerdictAnswer {
+    fn verdict(&self, file: &[u8], pane: u32, glass: u32) -> VerdictResult {
         let mut answer = Reference.verdict(file, pane, glass);
         self.verdict.inspect(|alter| alter(&mut answer));
         answer
     }
 
-    fn place(&self, file: &[u8], answers: &mut [u32], group: &mut [u32]) -> PlaceAnswer {
+    fn place(&self, file: &[u8], answers: &mut [u32], group: &mut [u32]) -> PlaceResult {
         let mut answer = Reference.place(file, answers, group);
         self.place
             .inspect(|alter| alter(&mut answer, answers, group));
