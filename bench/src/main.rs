@@ -5,7 +5,6 @@
 mod bar;
 mod calls;
 mod comparison;
-mod dice;
 mod growth;
 mod job_text;
 mod place;

@@ -123,8 +123,8 @@ impl<L: Library> Case<'_, L> {
 
     /// Placings with lists that are long enough, and with lists that are not.
     fn places(&self, random: &mut Random, outcome: &mut Outcome) {
-        let longer = 1 + random.below(9);
-        let longest = 10 + random.below(90);
+        let longer = random.draw(1..=9);
+        let longest = random.draw(10..=99);
         let Ok(roof) = &self.expected else {
             for (answers, group) in [(0, 0), (longer, longest), (longest, longer)] {
                 self.place(answers, group, outcome);

@@ -90,7 +90,7 @@ impl Task {
 fn write(folder: &Path, count: u64, seed: u64) -> Result<(), String> {
     fs::create_dir_all(folder).map_err(|error| format!("{}: {error}", folder.display()))?;
     for index in 0..count {
-        let (kind, file) = generate(&mut Random::new(seed, index));
+        let (kind, file) = generate(&mut Random::of_file(seed, index));
         let path = folder.join(format!("{seed}-{index}-{}.job", kind.name()));
         fs::write(&path, file).map_err(|error| format!("{}: {error}", path.display()))?;
     }

@@ -16,7 +16,7 @@ pub fn run(file: &[u8], canopy: &Canopy) -> bool {
     }
     print_placing(file);
 
-    let mut outcome = compare(&Bordavina, file, &mut Random::new(0, 0));
+    let mut outcome = compare(&Bordavina, file, &mut Random::of_file(0, 0));
     canopy.compare(file, &mut outcome);
     println!("report:\n{}", String::from_utf8_lossy(&outcome.text));
     println!("canopy: {:.1?}", outcome.tally.slowest_program);

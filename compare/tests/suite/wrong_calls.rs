@@ -54,7 +54,7 @@ impl Library for Altered {
 
 /// Whether a comparison of the file finds what was expected to be this, in a call of this name.
 fn found(library: &Altered, file: &[u8], call: &str, expected: &str) -> bool {
-    let outcome = compare(library, file, &mut Random::new(1, 1));
+    let outcome = compare(library, file, &mut Random::of_file(1, 1));
     assert!(outcome.finding_count >= outcome.findings.len());
     let mut findings = outcome.findings.iter();
     findings.any(|finding| finding.call.starts_with(call) && finding.expected.contains(expected))
@@ -69,7 +69,7 @@ fn unaltered_answers() {
         b"T 00000 00000\n",
         b"GT 00000 00001\n",
     ] {
-        let outcome = compare(&Altered::default(), file, &mut Random::new(1, 1));
+        let outcome = compare(&Altered::default(), file, &mut Random::of_file(1, 1));
         assert_eq!(outcome.finding_count, 0, "{:?}", outcome.findings);
     }
 }
