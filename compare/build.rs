@@ -1,4 +1,5 @@
-//! Tells the linker where the library is, and to link again when it changes.
+//! Links the proved library, and links again when it changes. A package that depends on this one has
+//! it linked as well.
 
 use std::path::Path;
 
@@ -7,9 +8,10 @@ fn main() {
     let library = folder.join("libbordavina.a");
     if !library.exists() {
         println!(
-            "cargo:warning=../target/staticlib/libbordavina.a is missing: compare/run builds it"
+            "cargo:warning=target/staticlib/libbordavina.a is missing: rt staticlib bordavina builds it"
         );
     }
     println!("cargo:rustc-link-search=native={}", folder.display());
+    println!("cargo:rustc-link-lib=static=bordavina");
     println!("cargo:rerun-if-changed={}", library.display());
 }

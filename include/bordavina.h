@@ -2,22 +2,7 @@
  *
  * Every call takes the bytes of a job file, asks nothing of them, keeps no state and may be made by several threads at once.
  * The calls allocate nothing, and read and write no memory but what they are lent. A pointer may be null where its length
- * is 0. Lent lists do not overlap one another or the file. The library is for x86-64.
- *
- * Numbers of refusals (0: none), with the offset where the cause was found, counted in bytes from the start of the file:
- *
- *    1  the file has under 14 or over 65,535 bytes                     offset 0
- *    2  the last 14 bytes are not a trailer                            offset of the trailer, the length less 14
- *    3  not: glass offset <= pane offset <= length less 14             offset of the trailer
- *    4  a line is not of its part's form, or lacks its newline         offset of the line
- *    5  a number is not among its allowed values                       offset of the line
- *    6  an id is already on an earlier line of its part                offset of the line
- *    7  a four-edge pane's longer side is over 3 times the shorter     offset of the line
- *    8  the 65th glass line or the 257th pane line begins              offset of the line
- *    9  a lent list is shorter than the number of panes                offset 0    (bordavina_place)
- *   10  no pane of the file has that id                                offset 0    (bordavina_verdict)
- *   11  no glass of the file has that id                               offset 0    (bordavina_verdict)
- */
+ * is 0. Lent lists do not overlap one another or the file. The library is for x86-64. */
 #ifndef BORDAVINA_H
 #define BORDAVINA_H
 
@@ -34,7 +19,35 @@ extern "C" {
 /* The bytes of a buffer that holds every text. */
 #define BORDAVINA_TEXT_SIZE 4096
 
-/* The answer to a check. Refused: number and offset, and the rest is 0. Accepted: number and offset are 0. */
+/* The numbers of refusals. The `number` of a result is one of these, and its `offset` is where the cause was found, counted in
+ * bytes from the start of the file. The rest of a refused result is 0. One that is not refused has offset 0. The numbers 12 to
+ * 19 are kept for later calls. */
+enum {
+    BORDAVINA_NOT_REFUSED = 0,
+
+    /* Every call; offset 0. */
+    BORDAVINA_FILE_LENGTH = 1, /* the file has under 14 or over 65,535 bytes */
+
+    /* Every call; offset of the trailer, the length less 14. */
+    BORDAVINA_NO_TRAILER = 2,   /* the last 14 bytes are not a trailer */
+    BORDAVINA_PART_OFFSETS = 3, /* not in order: glass offset <= pane offset <= offset of the trailer */
+
+    /* Every call; offset of the line. */
+    BORDAVINA_LINE_FORM = 4,      /* the line is not of its part's form, or lacks its newline */
+    BORDAVINA_NUMBER_VALUE = 5,   /* a number is not among its allowed values */
+    BORDAVINA_REPEATED_ID = 6,    /* the id is already on an earlier line of the part */
+    BORDAVINA_TOO_LONG = 7,       /* a four-edge pane's longer side is over 3 times the shorter */
+    BORDAVINA_TOO_MANY_LINES = 8, /* the 65th glass line or the 257th pane line begins */
+
+    /* bordavina_place; offset 0. */
+    BORDAVINA_LIST_TOO_SHORT = 9, /* a lent list is shorter than the number of panes */
+
+    /* bordavina_verdict; offset 0. */
+    BORDAVINA_NO_PANE = 10, /* no pane of the file has that id */
+    BORDAVINA_NO_GLASS = 11 /* no glass of the file has that id */
+};
+
+/* The answer to a check. */
 typedef struct {
     size_t number;
     size_t offset;
@@ -42,14 +55,14 @@ typedef struct {
     size_t panes;   /* pane lines */
 } bordavina_check_result;
 
-/* The answer to a question. Refused: number and offset, and clause is 0. Else number and offset are 0. */
+/* The answer to a question. */
 typedef struct {
     size_t number;
     size_t offset;
     size_t clause; /* 0: the glass passes; 1 to 4: the first clause that fails */
 } bordavina_verdict_result;
 
-/* The result of a placing. Refused: number and offset, and the rest is 0. Else number and offset are 0. */
+/* The result of a placing. */
 typedef struct {
     size_t number;
     size_t offset;
@@ -62,7 +75,7 @@ typedef struct {
 bordavina_check_result bordavina_check(const uint8_t *file, size_t file_length);
 
 /* Whether the glass of that id may be used for the pane of that id. The clauses: 1 kind, 2 size, 3 point load, 4 uniform
- * load. The file's own refusal comes first, then 10, then 11. */
+ * load. The file's own refusal comes first, then BORDAVINA_NO_PANE, then BORDAVINA_NO_GLASS. */
 bordavina_verdict_result bordavina_verdict(const uint8_t *file, size_t file_length, uint32_t pane, uint32_t glass);
 
 /* Gives the panes of a file sheets of its rack.
@@ -77,8 +90,8 @@ bordavina_verdict_result bordavina_verdict(const uint8_t *file, size_t file_leng
  * once, add up to less than `group`. Later entries are untouched.
  *
  * Which passing glass a pane has, which panes are placed when not all can be, and which group is listed, may change from one
- * version to the next. A refusal leaves both lists untouched; each list needs an entry for every pane, or the answer is
- * number 9. */
+ * version to the next. A refusal leaves both lists untouched; each list needs an entry for every pane, or the call is refused
+ * with BORDAVINA_LIST_TOO_SHORT. */
 bordavina_place_result bordavina_place(const uint8_t *file, size_t file_length,
                                        uint32_t *answers, size_t answers_length,
                                        uint32_t *short_group, size_t short_group_length);

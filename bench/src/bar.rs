@@ -1,5 +1,4 @@
 //! The bar that every row of the first table is held to.
-#![forbid(unsafe_code)]
 
 use crate::row::Row;
 

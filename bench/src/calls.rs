@@ -1,14 +1,14 @@
 //! The calls that are measured. Before a call is timed, both sides must give the same for it.
-#![forbid(unsafe_code)]
 
 use std::fmt::Debug;
 use std::hint::black_box;
 
+use compare::bordavina;
 use compare::job::MOST_PANES;
 use compare::reader::read;
 
+use crate::safe;
 use crate::timing::{time_both, Times};
-use crate::{library, safe};
 
 #[derive(Clone, Copy, Debug, PartialEq, Eq)]
 pub enum Call {
@@ -39,11 +39,11 @@ impl Call {
 }
 
 fn time_check(file: &[u8]) -> Result<Times, String> {
-    agree(library::check(file), safe::check(file))?;
+    agree(bordavina::check(file), safe::check(file))?;
     Ok(time_both(
         1,
         || {
-            black_box(library::check(black_box(file)));
+            black_box(bordavina::check(black_box(file)));
         },
         || {
             black_box(safe::check(black_box(file)));
@@ -55,7 +55,7 @@ fn time_verdict(file: &[u8]) -> Result<Times, String> {
     let pairs = pairs(file)?;
     for &(pane, glass) in &pairs {
         agree(
-            library::verdict(file, pane, glass),
+            bordavina::verdict(file, pane, glass),
             safe::verdict(file, pane, glass),
         )?;
     }
@@ -63,7 +63,7 @@ fn time_verdict(file: &[u8]) -> Result<Times, String> {
         pairs.len(),
         || {
             for &(pane, glass) in black_box(&pairs) {
-                black_box(library::verdict(black_box(file), pane, glass));
+                black_box(bordavina::verdict(black_box(file), pane, glass));
             }
         },
         || {
@@ -113,7 +113,7 @@ fn time_place(file: &[u8]) -> Result<Times, String> {
     let mut left = Lent::new();
     let mut right = Lent::new();
     agree(
-        library::place(file, &mut left.answers, &mut left.group),
+        bordavina::place(file, &mut left.answers, &mut left.group),
         safe::place(file, &mut right.answers, &mut right.group),
     )?;
     agree(&left, &right)?;
@@ -121,7 +121,7 @@ fn time_place(file: &[u8]) -> Result<Times, String> {
         1,
         || {
             let Lent { answers, group } = black_box(&mut left);
-            black_box(library::place(black_box(file), answers, group));
+            black_box(bordavina::place(black_box(file), answers, group));
         },
         || {
             let Lent { answers, group } = black_box(&mut right);

@@ -1,5 +1,4 @@
 //! The first table: each call on each shape at three sizes, on both sides.
-#![forbid(unsafe_code)]
 
 use crate::calls::Call;
 use crate::row::{Row, Size};

@@ -1,5 +1,4 @@
 //! The second table: how the time of `place` grows with the panes and with the glasses.
-#![forbid(unsafe_code)]
 
 use compare::job::{MOST_GLASSES, MOST_PANES};
 

@@ -1,7 +1,6 @@
 //! Writing a job file: document 01, "The job file".
-#![forbid(unsafe_code)]
 
-use crate::dice::Dice;
+use compare::random::Random;
 
 const NOTES: &str = "A roof and a rack, made for the benchmark.\n";
 
@@ -31,17 +30,17 @@ pub struct PaneNumbers {
 }
 
 /// A job file of these glasses and panes, under ids of four digits in no order.
-pub fn job_file(glasses: &[GlassNumbers], panes: &[PaneNumbers], dice: &mut Dice) -> Vec<u8> {
+pub fn job_file(glasses: &[GlassNumbers], panes: &[PaneNumbers], random: &mut Random) -> Vec<u8> {
     let mut text = String::from(NOTES);
     let glass_offset = text.len();
-    for (id, g) in ids(dice).zip(glasses) {
+    for (id, g) in ids(random).zip(glasses) {
         text += &format!(
             "G {id} {} {} {} {} {} {} {}\n",
             g.kind, g.thick, g.w, g.h, g.two, g.four, g.stock
         );
     }
     let pane_offset = text.len();
-    for (id, p) in ids(dice).zip(panes) {
+    for (id, p) in ids(random).zip(panes) {
         text += &format!(
             "P {id} {} {} {} {} {} {} {} {}\n",
             p.edges, p.angle, p.awning, p.top, p.w, p.h, p.down, p.up
@@ -52,8 +51,8 @@ pub fn job_file(glasses: &[GlassNumbers], panes: &[PaneNumbers], dice: &mut Dice
 }
 
 /// All ids of four digits, shuffled.
-fn ids(dice: &mut Dice) -> impl Iterator<Item = usize> {
+fn ids(random: &mut Random) -> impl Iterator<Item = usize> {
     let mut ids: Vec<usize> = (1_000..=9_999).collect();
-    dice.shuffle(&mut ids);
+    random.shuffle(&mut ids);
     ids.into_iter()
 }

@@ -1,16 +1,12 @@
 //! The benchmark: the proved library beside safe Rust with the same search. README.md says what is
 //! measured and how.
-#![deny(unsafe_code)]
+#![forbid(unsafe_code)]
 
 mod bar;
 mod calls;
 mod comparison;
-mod dice;
 mod growth;
 mod job_text;
-#[allow(unsafe_code)]
-#[path = "../../include/bordavina.rs"]
-mod library;
 mod place;
 mod row;
 mod safe;

@@ -1,5 +1,4 @@
 //! The placing in safe Rust: document 01, "The placing".
-#![forbid(unsafe_code)]
 
 use compare::clauses::{Loads, PASSES};
 use compare::job::{Glass, Job, Pane, MOST_GLASSES, MOST_PANES};

@@ -1,5 +1,4 @@
 //! A row of a table: a call on a job of a shape and a size, and its times.
-#![forbid(unsafe_code)]
 
 use std::fmt;
 

@@ -1,11 +1,9 @@
 //! The three calls in safe Rust, with the results of the C interface.
-#![forbid(unsafe_code)]
 
+use compare::bordavina::{CheckResult, PlaceResult, VerdictResult};
 use compare::clauses;
 use compare::reader::read;
-use compare::refusal::Refusal;
 
-use crate::library::{CheckResult, PlaceResult, VerdictResult};
 use crate::place;
 
 pub fn check(file: &[u8]) -> CheckResult {
@@ -15,11 +13,7 @@ pub fn check(file: &[u8]) -> CheckResult {
             panes: job.panes().len(),
             ..CheckResult::default()
         },
-        Err(Refusal { number, offset }) => CheckResult {
-            number,
-            offset,
-            ..CheckResult::default()
-        },
+        Err(refusal) => refusal.into(),
     }
 }
 
@@ -29,11 +23,7 @@ pub fn verdict(file: &[u8], pane: u32, glass: u32) -> VerdictResult {
             clause,
             ..VerdictResult::default()
         },
-        Err(Refusal { number, offset }) => VerdictResult {
-            number,
-            offset,
-            ..VerdictResult::default()
-        },
+        Err(refusal) => refusal.into(),
     }
 }
 
@@ -45,10 +35,6 @@ pub fn place(file: &[u8], answers: &mut [u32], group: &mut [u32]) -> PlaceResult
             group: counts.group,
             ..PlaceResult::default()
         },
-        Err(Refusal { number, offset }) => PlaceResult {
-            number,
-            offset,
-            ..PlaceResult::default()
-        },
+        Err(refusal) => refusal.into(),
     }
 }

@@ -2,7 +2,6 @@
 //! in safe Rust, with the same steps in the same order.
 //!
 //! A set of glasses is a word of 64 bits, one for each glass in file order.
-#![forbid(unsafe_code)]
 
 use compare::job::MOST_GLASSES;
 

@@ -1,5 +1,4 @@
 //! The time of a call, on both sides by turns.
-#![forbid(unsafe_code)]
 
 use std::hint::black_box;
 use std::time::{Duration, Instant};

@@ -1,7 +1,8 @@
 //! Everything that is compared on one file: each public call of document 01, "Glazing covered",
 //! with every field and every entry.
 
-use crate::calls::{CheckAnswer, Library, PlaceAnswer, VerdictAnswer, TEXT_SIZE};
+use crate::bordavina::{CheckResult, PlaceResult, VerdictResult, TEXT_SIZE};
+use crate::calls::Library;
 use crate::clauses;
 use crate::lent::LentList;
 use crate::outcome::Outcome;
@@ -46,15 +47,15 @@ impl<L: Library> Case<'_, L> {
         let expected = match &self.expected {
             Ok(roof) => {
                 outcome.tally.accepted += 1;
-                CheckAnswer {
+                CheckResult {
                     glasses: roof.job.glasses().len(),
                     panes: roof.job.panes().len(),
-                    ..CheckAnswer::default()
+                    ..CheckResult::default()
                 }
             }
             Err(refusal) => {
                 outcome.tally.refused[refusal.number] += 1;
-                CheckAnswer::from(*refusal)
+                CheckResult::from(*refusal)
             }
         };
         let answer = self.library.check(self.file);
@@ -103,14 +104,14 @@ impl<L: Library> Case<'_, L> {
         let expected = match expected {
             Ok(clause) => {
                 outcome.tally.verdicts[clause] += 1;
-                VerdictAnswer {
+                VerdictResult {
                     clause,
-                    ..VerdictAnswer::default()
+                    ..VerdictResult::default()
                 }
             }
             Err(refusal) => {
                 outcome.tally.refused_verdicts += 1;
-                VerdictAnswer::from(refusal)
+                VerdictResult::from(refusal)
             }
         };
         let answer = self.library.verdict(self.file, pane_id, glass_id);
@@ -122,8 +123,8 @@ impl<L: Library> Case<'_, L> {
 
     /// Placings with lists that are long enough, and with lists that are not.
     fn places(&self, random: &mut Random, outcome: &mut Outcome) {
-        let longer = 1 + random.below(9);
-        let longest = 10 + random.below(90);
+        let longer = random.draw(1..=9);
+        let longest = random.draw(10..=99);
         let Ok(roof) = &self.expected else {
             for (answers, group) in [(0, 0), (longer, longest), (longest, longer)] {
                 self.place(answers, group, outcome);
@@ -150,7 +151,7 @@ impl<L: Library> Case<'_, L> {
         }
     }
 
-    fn place(&self, answers: usize, group: usize, outcome: &mut Outcome) -> PlaceAnswer {
+    fn place(&self, answers: usize, group: usize, outcome: &mut Outcome) -> PlaceResult {
         let mut lists = Lists {
             answers: LentList::new(answers, ANSWER_MARK),
             group: LentList::new(group, GROUP_MARK),

@@ -1,7 +1,11 @@
 //! A second implementation of document 01 (the owner's scope document), written from that document alone,
-//! and the checks by which the proved library is compared with it.
-#![forbid(unsafe_code)]
+//! and the checks by which the proved library, which is linked here, is compared with it.
+#![deny(unsafe_code)]
 
+/// The proved library through its C interface. No other module has unsafe code.
+#[allow(unsafe_code)]
+#[path = "../../include/bordavina.rs"]
+pub mod bordavina;
 pub mod calls;
 pub mod clauses;
 pub mod comparison;

@@ -1,13 +1,8 @@
 //! The runner: compares the proved library with the second implementation.
-#![deny(unsafe_code)]
+#![forbid(unsafe_code)]
 
-#[allow(unsafe_code)]
-mod library;
-#[forbid(unsafe_code)]
 mod one_file;
-#[forbid(unsafe_code)]
 mod program;
-#[forbid(unsafe_code)]
 mod runner;
 
 use compare::generator::generate;
@@ -95,7 +90,7 @@ impl Task {
 fn write(folder: &Path, count: u64, seed: u64) -> Result<(), String> {
     fs::create_dir_all(folder).map_err(|error| format!("{}: {error}", folder.display()))?;
     for index in 0..count {
-        let (kind, file) = generate(&mut Random::new(seed, index));
+        let (kind, file) = generate(&mut Random::of_file(seed, index));
         let path = folder.join(format!("{seed}-{index}-{}.job", kind.name()));
         fs::write(&path, file).map_err(|error| format!("{}: {error}", path.display()))?;
     }

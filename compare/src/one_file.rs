@@ -1,8 +1,8 @@
 //! Compares one file from disk, and prints what each call gave.
 
-use crate::library::Bordavina;
 use crate::program::Canopy;
-use compare::calls::Library;
+use compare::bordavina;
+use compare::calls::Bordavina;
 use compare::comparison::compare;
 use compare::job::{Job, MOST_PANES};
 use compare::random::Random;
@@ -10,13 +10,13 @@ use compare::reader::read;
 
 /// Gives whether the file differs.
 pub fn run(file: &[u8], canopy: &Canopy) -> bool {
-    println!("check: {:?}", Bordavina.check(file));
+    println!("check: {:?}", bordavina::check(file));
     if let Ok(job) = read(file) {
         print_verdicts(file, &job);
     }
     print_placing(file);
 
-    let mut outcome = compare(&Bordavina, file, &mut Random::new(0, 0));
+    let mut outcome = compare(&Bordavina, file, &mut Random::of_file(0, 0));
     canopy.compare(file, &mut outcome);
     println!("report:\n{}", String::from_utf8_lossy(&outcome.text));
     println!("canopy: {:.1?}", outcome.tally.slowest_program);
@@ -34,7 +34,7 @@ fn print_verdicts(file: &[u8], job: &Job) {
     for pane in job.panes() {
         print!("verdicts on pane {}, glass:clause", pane.id);
         for glass in job.glasses() {
-            let answer = Bordavina.verdict(file, pane.id.into(), glass.id.into());
+            let answer = bordavina::verdict(file, pane.id.into(), glass.id.into());
             match answer.number {
                 0 => print!(" {}:{}", glass.id, answer.clause),
                 number => print!(" {}:refused {number} {}", glass.id, answer.offset),
@@ -47,7 +47,7 @@ fn print_verdicts(file: &[u8], job: &Job) {
 fn print_placing(file: &[u8]) {
     let mut answers = [0; MOST_PANES];
     let mut group = [0; MOST_PANES];
-    let answer = Bordavina.place(file, &mut answers, &mut group);
+    let answer = bordavina::place(file, &mut answers, &mut group);
     println!("place: {answer:?}");
     println!("answers: {:?}", &answers[..answer.wanted.min(MOST_PANES)]);
     println!("short group: {:?}", &group[..answer.group.min(MOST_PANES)]);

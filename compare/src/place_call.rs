@@ -1,7 +1,7 @@
 //! What holds of a call of `bordavina_place`: the rules of its placing or its refusal, and that it
 //! writes no other entry of the lent lists. Document 01, "The placing" and "What each cause gives".
 
-use crate::calls::PlaceAnswer;
+use crate::bordavina::PlaceResult;
 use crate::lent::LentList;
 use crate::refusal::Refusal;
 use crate::roof::Roof;
@@ -19,7 +19,7 @@ pub struct Lists {
 }
 
 /// The broken rules of a call on an accepted file, with lists that are long enough.
-pub fn check_placed(roof: &Roof, answer: &PlaceAnswer, lists: &Lists) -> Vec<Broken> {
+pub fn check_placed(roof: &Roof, answer: &PlaceResult, lists: &Lists) -> Vec<Broken> {
     let mut broken = Vec::new();
     if (answer.number, answer.offset) != (0, 0) {
         broken.push(Broken::new(ACCEPTED, format!("{answer:?}")));
@@ -43,9 +43,9 @@ pub fn check_placed(roof: &Roof, answer: &PlaceAnswer, lists: &Lists) -> Vec<Bro
 }
 
 /// The broken rules of a call that is refused.
-pub fn check_refused(refusal: Refusal, answer: &PlaceAnswer, lists: &Lists) -> Vec<Broken> {
+pub fn check_refused(refusal: Refusal, answer: &PlaceResult, lists: &Lists) -> Vec<Broken> {
     let mut broken = Vec::new();
-    let expected = PlaceAnswer::from(refusal);
+    let expected = PlaceResult::from(refusal);
     if *answer != expected {
         let came = format!("{answer:?} for {expected:?}");
         broken.push(Broken::new(REFUSED, came));

@@ -1,7 +1,7 @@
 //! Compares the files of a seed on all cores, and tells how far it is and what differs.
 
-use crate::library::Bordavina;
 use crate::program::Canopy;
+use compare::calls::Bordavina;
 use compare::comparison::compare;
 use compare::generator::{generate, Kind};
 use compare::outcome::Outcome;
@@ -79,7 +79,7 @@ impl Runner {
             if index >= self.files {
                 return tally;
             }
-            let mut random = Random::new(self.seed, index);
+            let mut random = Random::of_file(self.seed, index);
             let (kind, file) = generate(&mut random);
             let mut outcome = compare(&Bordavina, &file, &mut random);
             if index.is_multiple_of(PROGRAM_EVERY) {

@@ -42,7 +42,7 @@ int main(void) {
     size_t length = write_job();
 
     bordavina_check_result checked = bordavina_check(file, length);
-    if (checked.number != 0) {
+    if (checked.number != BORDAVINA_NOT_REFUSED) {
         printf("refused %zu %zu\n", checked.number, checked.offset);
         return 1;
     }
@@ -56,7 +56,7 @@ int main(void) {
     uint32_t answers[PANES];
     uint32_t short_group[PANES];
     bordavina_place_result placed = bordavina_place(file, length, answers, PANES, short_group, PANES);
-    if (placed.number != 0) {
+    if (placed.number != BORDAVINA_NOT_REFUSED) {
         printf("refused %zu %zu\n", placed.number, placed.offset);
         return 1;
     }

@@ -5,6 +5,8 @@
 #[path = "../../include/bordavina.rs"]
 mod bordavina;
 
+use bordavina::refusal::NOT_REFUSED;
+
 /// id, kind, thickness, sheet w and h, span constants for two edges and for four, stock
 const GLASSES: [[u32; 8]; 2] = [
     [9, 1, 12, 2400, 3600, 21304, 23857, 1],
@@ -35,7 +37,7 @@ fn main() {
     let file = job.as_bytes();
 
     let checked = bordavina::check(file);
-    if checked.number != 0 {
+    if checked.number != NOT_REFUSED {
         println!("refused {} {}", checked.number, checked.offset);
         std::process::exit(1);
     }
@@ -55,7 +57,7 @@ fn main() {
     let mut answers = [0; PANES.len()];
     let mut short_group = [0; PANES.len()];
     let placed = bordavina::place(file, &mut answers, &mut short_group);
-    if placed.number != 0 {
+    if placed.number != NOT_REFUSED {
         println!("refused {} {}", placed.number, placed.offset);
         std::process::exit(1);
     }

@@ -33,17 +33,17 @@ pub fn plan(random: &mut Random) -> Plan {
 
 /// A pane for which the strong glass passes.
 fn easy_pane(random: &mut Random) -> Pane {
-    let w = random.between(1, 1_600u16);
+    let w = random.draw(1..=1_600u16);
     Pane {
         id: 0,
         edges: 4,
-        angle: random.between(30, 74),
+        angle: random.draw(30..=74),
         awning: false,
         top: random.pick(&[0, 2_500, 2_999, 3_000, 7_000]),
         w,
-        h: random.between(w, 3 * w),
-        down: random.between(0, 200),
-        up: random.between(0, 200),
+        h: random.draw(w..=3 * w),
+        down: random.draw(0..=200),
+        up: random.draw(0..=200),
     }
 }
 
@@ -76,7 +76,7 @@ fn size(random: &mut Random) -> (Pane, Glass) {
 
 /// Spans at an entry of the tables and one mm off, with sides at the ends of the column.
 fn span(random: &mut Random) -> (Pane, Glass) {
-    let kind = random.between(1, 4u8);
+    let kind = random.draw(1..=4u8);
     let live_load = random.below(3);
     let thick = random.pick(&THICKNESSES);
     let column = random.below(4);
@@ -86,13 +86,13 @@ fn span(random: &mut Random) -> (Pane, Glass) {
         0 => b,
         1 => random.pick(&[b + 1, 2 * b]),
         2 => random.pick(&[2 * b + 1, 3 * b]).min(5_000),
-        _ => random.between(1, 5_000),
+        _ => random.draw(1..=5_000),
     };
     let turned = column != 3 && random.one_in(2);
     let angle = match live_load {
         0 => random.pick(&[30, 31, 45, 74]),
         1 => random.pick(&[0, 5, 28, 29]),
-        _ => random.between(0, 74),
+        _ => random.draw(0..=74),
     };
     let pane = Pane {
         id: 0,
@@ -118,12 +118,12 @@ fn pressure(random: &mut Random) -> (Pane, Glass) {
     let upward = random.one_in(2);
     let mut pane = Pane {
         edges: random.pick(&[2, 4]),
-        angle: 5 * random.between(0, 14u8) + random.pick(&[0, 0, 1, 4]),
-        down: if upward { 0 } else { random.between(0, 900) },
+        angle: 5 * random.draw(0..=14u8) + random.pick(&[0, 0, 1, 4]),
+        down: if upward { 0 } else { random.draw(0..=900) },
         up: if upward {
-            random.between(200, 900)
+            random.draw(200..=900)
         } else {
-            random.between(0, 30)
+            random.draw(0..=30)
         },
         ..easy_pane(random)
     };

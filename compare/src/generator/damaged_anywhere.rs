@@ -19,7 +19,7 @@ pub fn file(random: &mut Random) -> Vec<u8> {
         file.extend(trailer(shifted[0], shifted[1]));
     }
     if choice != 1 {
-        for _ in 0..1 + random.below(3) {
+        for _ in 0..random.draw(1..=3) {
             edit_file(&mut file, random);
         }
     }
@@ -29,17 +29,17 @@ pub fn file(random: &mut Random) -> Vec<u8> {
 /// An offset that stays, moves a little, or is any.
 fn shift(offset: usize, end: usize, random: &mut Random) -> usize {
     match random.below(6) {
-        0 => offset + 1 + random.below(40),
-        1 => offset.saturating_sub(1 + random.below(40)),
+        0 => offset + random.draw(1..=40),
+        1 => offset.saturating_sub(random.draw(1..=40)),
         2 => random.pick(&[0, end - 1, end, end + 1, end + TRAILER_BYTES, 99_999]),
-        3 => random.below(end + 1),
+        3 => random.draw(0..=end),
         _ => offset,
     }
 }
 
 fn edit_file(file: &mut Vec<u8>, random: &mut Random) {
-    let at = random.below(file.len() + 1);
-    let count = 1 + random.below(5);
+    let at = random.draw(0..=file.len());
+    let count = random.draw(1..=5);
     let end = (at + count).min(file.len());
     match random.below(7) {
         0 => file[at..end].fill_with(|| random.pick(NEAR_BYTES)),

@@ -76,7 +76,7 @@ fn damage_line(draft: &mut Draft, Spot { glass, at }: Spot, random: &mut Random)
     } else {
         (&mut draft.pane_lines, &OUTSIDE_PANE)
     };
-    let field = 1 + random.below(outside.len());
+    let field = random.draw(1..=outside.len());
     match random.below(16) {
         0 => drop(lines.last_mut().and_then(Vec::pop)),
         1 => lines.insert(at, random.pick(&STRAY_LINES).into()),
@@ -100,7 +100,7 @@ fn damage_line(draft: &mut Draft, Spot { glass, at }: Spot, random: &mut Random)
 
 /// Sets a pane's sides to a ratio of 3 or a little more.
 fn make_slender(line: &mut Vec<u8>, random: &mut Random) {
-    let shorter = random.between(1, 1_666u32);
+    let shorter = random.draw(1..=1_666u32);
     let longer = 3 * shorter + random.pick(&[0, 1, 1, 2]);
     let turned = random.one_in(2);
     edit(line, |fields| {

@@ -26,13 +26,13 @@ pub fn small_plan(random: &mut Random) -> Plan {
     } else {
         (6, 6)
     };
-    plan_of(1 + random.below(glasses), 1 + random.below(panes), random)
+    plan_of(random.draw(1..=glasses), random.draw(1..=panes), random)
 }
 
 pub fn plan_of(glasses: usize, panes: usize, random: &mut Random) -> Plan {
     let plenty = random.pick(&[1, 2, 8, 16]);
     let most_sheets = (plenty * panes / glasses.max(1) + 1).min(999) as u16;
-    let styles: Vec<Pane> = (0..1 + random.below(5)).map(|_| style(random)).collect();
+    let styles: Vec<Pane> = (0..random.draw(1..=5)).map(|_| style(random)).collect();
     let mut plan = Plan {
         glasses: (0..glasses).map(|_| glass(most_sheets, random)).collect(),
         panes: (0..panes).map(|_| random.pick(&styles)).collect(),
@@ -45,12 +45,12 @@ pub fn plan_of(glasses: usize, panes: usize, random: &mut Random) -> Plan {
 }
 
 fn glass(most_sheets: u16, random: &mut Random) -> Glass {
-    let kind = random.between(1, 4u8);
+    let kind = random.draw(1..=4u8);
     let thick = random.pick(&[6, 8, 10, 12]);
     let (w, h) = random.pick(&SHEETS);
     // About the constants of the figures: tenths of k1 for each mm, more for heat treatment.
     let for_each_mm = [1_775, 2_250, 2_900, 2_900][usize::from(kind) - 1];
-    let two = for_each_mm * u32::from(thick) + random.between(0, 400u32);
+    let two = for_each_mm * u32::from(thick) + random.draw(0..=400u32);
     Glass {
         id: 0,
         kind,
@@ -59,7 +59,7 @@ fn glass(most_sheets: u16, random: &mut Random) -> Glass {
         h,
         two,
         four: two * 28 / 25,
-        stock: random.between(0, most_sheets),
+        stock: random.draw(0..=most_sheets),
     }
 }
 
@@ -67,32 +67,32 @@ fn glass(most_sheets: u16, random: &mut Random) -> Glass {
 fn style(random: &mut Random) -> Pane {
     let edges = random.pick(&[4, 4, 4, 2]);
     let longest = if edges == 4 { 36 } else { 14 };
-    let w = 50 * random.between(5, longest);
+    let w = 50 * random.draw(5..=longest);
     let h = match edges {
-        2 => 50 * random.between(10, 60),
-        _ => (w + 50 * random.between(0, w / 25)).min(3_600),
+        2 => 50 * random.draw(10..=60),
+        _ => (w + 50 * random.draw(0..=w / 25)).min(3_600),
     };
     Pane {
         id: 0,
         edges,
         angle: random.pick(&[3, 5, 10, 15, 22, 30, 32, 35, 45, 60]),
         awning: random.one_in(10),
-        top: random.between(24, 80u32) * 100,
+        top: random.draw(24..=80u32) * 100,
         w,
         h,
-        down: random.between(30, 150),
-        up: random.between(40, 300),
+        down: random.draw(30..=150),
+        up: random.draw(40..=300),
     }
 }
 
 /// One pane of a style: at times cut smaller, or in a corner with more wind.
 fn vary(pane: &mut Pane, random: &mut Random) {
     if random.one_in(4) {
-        pane.h = pane.h - random.between(0, pane.h / 20);
+        pane.h = pane.h - random.draw(0..=pane.h / 20);
         pane.h = pane.h.max(pane.w.div_ceil(3));
     }
     if random.one_in(4) {
-        pane.up += random.between(0, 200u16);
-        pane.down += random.between(0, 100u16);
+        pane.up += random.draw(0..=200u16);
+        pane.down += random.draw(0..=100u16);
     }
 }

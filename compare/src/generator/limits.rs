@@ -20,7 +20,7 @@ pub fn random_bytes(random: &mut Random) -> Vec<u8> {
     }
     if random.one_in(2) {
         let most = if random.one_in(2) { length } else { 99_999 };
-        let (glass_offset, pane_offset) = (random.below(most + 1), random.below(most + 1));
+        let (glass_offset, pane_offset) = (random.draw(0..=most), random.draw(0..=most));
         file.extend(trailer(glass_offset, pane_offset));
     }
     file
@@ -67,7 +67,7 @@ fn long_file(random: &mut Random) -> Vec<u8> {
 /// More glass lines or pane lines than allowed. The first line too many may be of any form, and
 /// an earlier line may be faulty.
 pub fn too_many_lines(random: &mut Random) -> Vec<u8> {
-    let more = 1 + random.below(4);
+    let more = random.draw(1..=4);
     let (glasses, panes) = match random.below(5) {
         0 => (MOST_GLASSES + more, random.below(5)),
         1 => (random.below(5), MOST_PANES + more),

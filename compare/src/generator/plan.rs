@@ -26,9 +26,9 @@ impl Plan {
 /// The numbers of glasses and panes of a job: mostly small, at times the largest.
 pub fn sizes(random: &mut Random) -> (usize, usize) {
     match random.below(100) {
-        0..=74 => (random.below(9), random.below(13)),
-        75..=91 => (8 + random.below(17), 12 + random.below(37)),
-        92..=95 => (32 + random.below(33), 128 + random.below(129)),
+        0..=74 => (random.draw(0..=8), random.draw(0..=12)),
+        75..=91 => (random.draw(8..=24), random.draw(12..=48)),
+        92..=95 => (random.draw(32..=64), random.draw(128..=256)),
         _ => (MOST_GLASSES, MOST_PANES),
     }
 }
@@ -52,7 +52,7 @@ pub fn strong_glass() -> Glass {
 fn ids(count: usize, random: &mut Random) -> Vec<u16> {
     let largest = LARGEST_ID as u16;
     let count = count as u16;
-    let first = random.between(1, largest - count);
+    let first = random.draw(1..=largest - count);
     match random.below(4) {
         0 => (1..=count).collect(),
         1 => (first..first + count).rev().collect(),

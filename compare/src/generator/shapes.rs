@@ -118,7 +118,7 @@ fn shortage(glasses: usize, panes: usize, random: &mut Random) -> Shape {
     let last = (first + random.below(4)).min(glasses - 1);
     let mut stocks: Vec<u16> = (0..glasses).map(|_| random.pick(&[0, 1, 5, 999])).collect();
     stocks[first..=last].fill(random.pick(&[0, 1, 2]));
-    let many = panes / 2 + random.below(panes / 2 + 1);
+    let many = panes / 2 + random.draw(0..=panes / 2);
     let mut intervals = vec![(first, last); many];
     intervals.extend((many..panes).map(|_| any_interval(glasses, random)));
     Shape { stocks, intervals }
@@ -127,7 +127,7 @@ fn shortage(glasses: usize, panes: usize, random: &mut Random) -> Shape {
 /// As many sheets as panes, and an interval about a sheet for each pane. At times one sheet less.
 fn tight(glasses: usize, panes: usize, random: &mut Random) -> Shape {
     let mut stocks = vec![0; glasses];
-    let reach = 1 + random.below(6);
+    let reach = random.draw(1..=6);
     let mut intervals = Vec::new();
     for _ in 0..panes {
         let glass = random.below(glasses);
@@ -151,5 +151,5 @@ fn any_interval(glasses: usize, random: &mut Random) -> Interval {
 /// Stocks of about as many sheets as panes.
 fn fair_stocks(glasses: usize, panes: usize, random: &mut Random) -> Vec<u16> {
     let most = (2 * panes / glasses + 1) as u16;
-    (0..glasses).map(|_| random.between(0, most)).collect()
+    (0..glasses).map(|_| random.draw(0..=most)).collect()
 }

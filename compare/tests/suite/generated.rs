@@ -27,7 +27,7 @@ fn max_flow() {
 
 #[test]
 fn a_file_is_given_by_seed_and_index() {
-    let file = |seed, index| generate(&mut Random::new(seed, index)).1;
+    let file = |seed, index| generate(&mut Random::of_file(seed, index)).1;
     assert_eq!(file(3, 5), file(3, 5));
     assert_ne!(file(3, 5), file(3, 6));
     assert_ne!(file(3, 5), file(4, 5));
@@ -39,7 +39,7 @@ fn every_case_is_generated() {
     let mut tally = Tally::default();
     let mut largest = 0;
     for index in 0..2_000 {
-        let mut random = Random::new(1, index);
+        let mut random = Random::of_file(1, index);
         let (kind, file) = generate(&mut random);
         let outcome = compare(&Reference, &file, &mut random);
         assert_eq!(outcome.finding_count, 0, "{index}: {:?}", outcome.findings);

@@ -1,8 +1,9 @@
-//! The second implementation on the examples of document 01, the checks on wrong answers, and the
-//! generator.
+//! The second implementation on the examples of document 01, the checks on wrong answers, the
+//! generator, and the numbers that the interface names.
 
 mod examples;
 mod generated;
+mod interface;
 mod jobs;
 mod reference;
 mod refusals;

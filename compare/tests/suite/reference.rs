@@ -1,7 +1,8 @@
 //! A right library made of the second implementation, for the tests to alter. It places by a
 //! simple search for moves, so that its counts also check the max flow.
 
-use compare::calls::{CheckAnswer, Library, PlaceAnswer, VerdictAnswer, TEXT_SIZE};
+use compare::bordavina::{CheckResult, PlaceResult, VerdictResult, TEXT_SIZE};
+use compare::calls::Library;
 use compare::clauses;
 use compare::job::MOST_PANES;
 use compare::reader::read;
@@ -11,23 +12,23 @@ use compare::roof::Roof;
 pub struct Reference;
 
 impl Library for Reference {
-    fn check(&self, file: &[u8]) -> CheckAnswer {
-        read(file).map_or_else(CheckAnswer::from, |job| CheckAnswer {
+    fn check(&self, file: &[u8]) -> CheckResult {
+        read(file).map_or_else(CheckResult::from, |job| CheckResult {
             glasses: job.glasses().len(),
             panes: job.panes().len(),
-            ..CheckAnswer::default()
+            ..CheckResult::default()
         })
     }
 
-    fn verdict(&self, file: &[u8], pane: u32, glass: u32) -> VerdictAnswer {
+    fn verdict(&self, file: &[u8], pane: u32, glass: u32) -> VerdictResult {
         let verdict = clauses::verdict(file, pane, glass);
-        verdict.map_or_else(VerdictAnswer::from, |clause| VerdictAnswer {
+        verdict.map_or_else(VerdictResult::from, |clause| VerdictResult {
             clause,
-            ..VerdictAnswer::default()
+            ..VerdictResult::default()
         })
     }
 
-    fn place(&self, file: &[u8], answers: &mut [u32], short_group: &mut [u32]) -> PlaceAnswer {
+    fn place(&self, file: &[u8], answers: &mut [u32], short_group: &mut [u32]) -> PlaceResult {
         let roof = match read(file) {
             Ok(job) => Roof::of(job),
             Err(refusal) => return refusal.into(),
@@ -50,11 +51,11 @@ impl Library for Reference {
         for (entry, &pane) in short_group.iter_mut().zip(&group) {
             *entry = panes[pane].id.into();
         }
-        PlaceAnswer {
+        PlaceResult {
             wanted: panes.len(),
             placed: search.glass_of.iter().flatten().count(),
             group: group.len(),
-            ..PlaceAnswer::default()
+            ..PlaceResult::default()
         }
     }
 

@@ -2,7 +2,8 @@
 
 use crate::jobs::{EXAMPLE_J, SHORT_JOB};
 use crate::reference::Reference;
-use compare::calls::{CheckAnswer, Library, PlaceAnswer, VerdictAnswer, TEXT_SIZE};
+use compare::bordavina::{CheckResult, PlaceResult, VerdictResult, TEXT_SIZE};
+use compare::calls::Library;
 use compare::comparison::{compare, TEXT_LEFT, TEXT_WITHIN};
 use compare::place_call::{ACCEPTED, ANSWERS_LEFT, GROUP_LEFT, REFUSED};
 use compare::random::Random;
@@ -10,9 +11,9 @@ use compare::refusal::{NO_GLASS, NO_PANE, SHORT_LIST};
 use compare::rules::{GROUP, PLACED, STOCK, WANTED};
 use compare::text::FORM;
 
-type AlterCheck = fn(&mut CheckAnswer);
-type AlterVerdict = fn(&mut VerdictAnswer);
-type AlterPlace = fn(&mut PlaceAnswer, &mut [u32], &mut [u32]);
+type AlterCheck = fn(&mut CheckResult);
+type AlterVerdict = fn(&mut VerdictResult);
+type AlterPlace = fn(&mut PlaceResult, &mut [u32], &mut [u32]);
 type AlterReport = fn(&mut usize, &mut [u8; TEXT_SIZE]);
 
 /// The right library, altered in its answers.
@@ -25,19 +26,19 @@ struct Altered {
 }
 
 impl Library for Altered {
-    fn check(&self, file: &[u8]) -> CheckAnswer {
+    fn check(&self, file: &[u8]) -> CheckResult {
         let mut answer = Reference.check(file);
         self.check.inspect(|alter| alter(&mut answer));
         answer
     }
 
-    fn verdict(&self, file: &[u8], pane: u32, glass: u32) -> VerdictAnswer {
+    fn verdict(&self, file: &[u8], pane: u32, glass: u32) -> VerdictResult {
         let mut answer = Reference.verdict(file, pane, glass);
         self.verdict.inspect(|alter| alter(&mut answer));
         answer
     }
 
-    fn place(&self, file: &[u8], answers: &mut [u32], group: &mut [u32]) -> PlaceAnswer {
+    fn place(&self, file: &[u8], answers: &mut [u32], group: &mut [u32]) -> PlaceResult {
         let mut answer = Reference.place(file, answers, group);
         self.place
             .inspect(|alter| alter(&mut answer, answers, group));
@@ -53,7 +54,7 @@ impl Library for Altered {
 
 /// Whether a comparison of the file finds what was expected to be this, in a call of this name.
 fn found(library: &Altered, file: &[u8], call: &str, expected: &str) -> bool {
-    let outcome = compare(library, file, &mut Random::new(1, 1));
+    let outcome = compare(library, file, &mut Random::of_file(1, 1));
     assert!(outcome.finding_count >= outcome.findings.len());
     let mut findings = outcome.findings.iter();
     findings.any(|finding| finding.call.starts_with(call) && finding.expected.contains(expected))
@@ -68,7 +69,7 @@ fn unaltered_answers() {
         b"T 00000 00000\n",
         b"GT 00000 00001\n",
     ] {
-        let outcome = compare(&Altered::default(), file, &mut Random::new(1, 1));
+        let outcome = compare(&Altered::default(), file, &mut Random::of_file(1, 1));
         assert_eq!(outcome.finding_count, 0, "{:?}", outcome.findings);
     }
 }
