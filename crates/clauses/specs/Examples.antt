@@ -3,12 +3,13 @@
 use Prim.Native.Nat.{ℕ}
 use mathlib.Core.Path.{_≡_}
 use mathlib.Core.Bool.{true, false}
+use Rattle.dead_loads.specs.DeadLoads.{maxRow, minRow}
 use Rattle.job_glass.specs.declared.Glass.{Glass}
 use Rattle.job_pane.specs.declared.Pane.{Pane}
 use Rattle.point_load.specs.LiveLoad.{liveLoad}
 use Rattle.point_load.specs.Support.{AR=2, AR=3, columnOf, spanOf}
 use Rattle.span_table.specs.Spans.{maxSpan}
-use Rattle.uniform_load.specs.DeadLoads.{maxRow, minRow, maxDeadLoad, minDeadLoad}
+use Rattle.uniform_load.specs.GlassLoads.{maxDeadLoad, minDeadLoad}
 use Rattle.uniform_load.specs.UniformLoad.{designPressure, uniformLoadFails}
 use Rattle.clauses.specs.Kind.{kindFails}
 

@@ -1,4 +1,3 @@
--- Tests of every number below a bound; the rows; the rule of the spans.
-pub mod Upto
+-- The rows; the rule of the spans.
 pub mod Rows
 pub mod SpanRule

@@ -1,10 +1,10 @@
 -- What selects a row of the tables is within the table.
 --     if-high                                  a choice of two numbers within a bound
 --     table-high, load-high, thickness-high    of a kind, a live load and a thickness
---     kind-is, nominal-is                      the kinds and the thicknesses stand in the tables in order
 --     row-high                                 of the three together
-use Prim.Native.Nat.{ℕ, zero, suc, _+_, _*_, _≤_, _<_}
-use mathlib.Core.Path.{_≡_, refl}
+--     nominal-is                               the nominal thicknesses, by their rows: 2 mm apart
+use Prim.Native.Nat.{ℕ, _+_, _*_, _≤_, _<_}
+use mathlib.Core.Path.{_≡_}
 use mathlib.Core.Logic.{inl, inr}
 use mathlib.Core.Bool.{Bool, true, false}
 use native.Mathlib.Omega.{arith}
@@ -28,19 +28,11 @@ pub thickness-high : (thick : ℕ) → thicknessOf thick ≤ 3
 thickness-high thick =
     if-high (eqb thick 6) (omega arith) (if-high (eqb thick 8) (omega arith) (if-high (eqb thick 10) (omega arith) (omega arith)))
 
-pub kind-is : (kind : ℕ) → 1 ≤ kind → kind ≤ 4 → kind ≡ 1 + tableOf kind
-kind-is zero low high = absurd (omega arith)
-kind-is (suc zero) low high = refl
-kind-is (suc (suc zero)) low high = refl
-kind-is (suc (suc (suc zero))) low high = refl
-kind-is (suc (suc (suc (suc zero)))) low high = refl
-kind-is (suc (suc (suc (suc (suc n))))) low high = absurd (omega arith)
+pub row-high : (kind load thick : ℕ) → rowOf kind load thick < 48
+row-high kind load thick = omega (arith, table-high kind, load-high load, thickness-high thick)
 
 pub nominal-is : (thick : ℕ) → Nominal thick → thick ≡ 6 + 2 * thicknessOf thick
 nominal-is thick (inl e) = rw e
 nominal-is thick (inr (inl e)) = rw e
 nominal-is thick (inr (inr (inl e))) = rw e
 nominal-is thick (inr (inr (inr e))) = rw e
-
-pub row-high : (kind load thick : ℕ) → rowOf kind load thick < 48
-row-high kind load thick = omega (arith, table-high kind, load-high load, thickness-high thick)

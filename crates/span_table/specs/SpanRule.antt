@@ -1,5 +1,5 @@
--- Document 01, "The four clauses", clause 3: "Within a table and a load, spans never fall with thickness and never rise from
--- one column to the next". It is stated on the lookup, for any two thicknesses and any two columns.
+-- Document 01, "The four clauses", clause 3: what the tables keep to. For one kind and live load, a thicker glass spans no less, and
+-- a later column gives no more. It is stated on the lookup, for any two thicknesses and any two columns.
 use Prim.Native.Nat.{ℕ, _≤_, _<_}
 use mathlib.Core.Path.{_≡_}
 use mathlib.Core.Logic.{_⊎_}

@@ -11,13 +11,13 @@ use Rattle.job_glass.specs.Values.{GlassValues}
 use Rattle.job_glass.specs.declared.Glass.{Glass}
 use Rattle.job_pane.specs.Values.{PaneValues}
 use Rattle.job_pane.specs.declared.Pane.{Pane}
+use Rattle.dead_loads.proofs.DeadLoads.{in-place}
 use Rattle.point_load.specs.Support.{spanOf}
 use Rattle.span_table.proofs.Rows.{if-high, thickness-high, nominal-is}
-use Rattle.uniform_load.specs.DeadLoads.{maxDeadLoad, minDeadLoad}
+use Rattle.uniform_load.specs.GlassLoads.{maxDeadLoad, minDeadLoad}
 use Rattle.uniform_load.specs.UniformLoad.{spanConstant}
 use Rattle.uniform_load.specs.Steps.{uniformLoadOf, pressureOn, UniformValues}
 use Rattle.uniform_load.specs.declared.UniformLoad.{UniformLoad}
-use Rattle.uniform_load.proofs.DeadLoads.{in-place}
 
 module _ {g : Glass} (values : GlassValues g) where
   thick-high : g .thick ≤ 12

@@ -1,3 +1,2 @@
--- The rows of Table 6.1 by angle, and how large numbers can be.
-pub mod DeadLoads
+-- How large numbers can be.
 pub mod Bounds

@@ -1,5 +1,5 @@
--- Document 01, "The four clauses": clause 4, the uniform load (AS 1288, 6.5.5).
-pub mod DeadLoads
+-- Document 01, "The four clauses": clause 4, the uniform load (AS 1288, 6.5.5). Its table is in dead_loads.
+pub mod GlassLoads
 pub mod Wind
 pub mod UniformLoad
 -- What the code promises, step by step.

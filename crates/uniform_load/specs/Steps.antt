@@ -4,8 +4,9 @@ use mathlib.Core.Bool.{Bool}
 use lib.Dec.{ltb}
 use Rattle.job_glass.specs.declared.Glass.{Glass}
 use Rattle.job_pane.specs.declared.Pane.{Pane}
+use Rattle.dead_loads.specs.DeadLoads.{maxRow, minRow}
 use Rattle.point_load.specs.Support.{spanOf}
-use Rattle.uniform_load.specs.DeadLoads.{maxRow, minRow, maxDeadLoad, minDeadLoad}
+use Rattle.uniform_load.specs.GlassLoads.{maxDeadLoad, minDeadLoad}
 use Rattle.uniform_load.specs.Wind.{pressuresOf}
 use Rattle.uniform_load.specs.UniformLoad.{governing, spanConstant}
 use Rattle.uniform_load.specs.declared.UniformLoad.{UniformLoad}

@@ -5,8 +5,9 @@ use lib.Dec.{ltb, eqb}
 use Rattle.basics.specs.Choice.{if_then_else_}
 use Rattle.job_glass.specs.declared.Glass.{Glass}
 use Rattle.job_pane.specs.declared.Pane.{Pane}
+use Rattle.dead_loads.specs.DeadLoads.{maxRow, minRow}
 use Rattle.point_load.specs.Support.{spanOf}
-use Rattle.uniform_load.specs.DeadLoads.{maxRow, minRow, maxDeadLoad, minDeadLoad}
+use Rattle.uniform_load.specs.GlassLoads.{maxDeadLoad, minDeadLoad}
 use Rattle.uniform_load.specs.Wind.{pressuresOf}
 use Rattle.uniform_load.specs.declared.wind.Pressures.{Pressures}
 

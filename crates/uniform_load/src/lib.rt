@@ -1,5 +1,5 @@
 // Clause 4, the uniform load: document 01, "The four clauses"; AS 1288, 6.5.5 and Table 6.1.
-mod dead_loads;
+mod glass_loads;
 mod pressure;
 mod wind;
 

@@ -1,7 +1,7 @@
 // The design pressure and the span constant of a pane and a glass: specs/UniformLoad.antt.
 use crate::UniformLoad;
-use crate::dead_loads::max_dead_load;
-use crate::dead_loads::min_dead_load;
+use crate::glass_loads::max_dead_load;
+use crate::glass_loads::min_dead_load;
 use job_glass::Glass;
 ghost use mathlib.Core.Path.{_≡_};
 ghost use Rattle.job_glass.specs.Values.{GlassValues};

@@ -1,7 +1,5 @@
--- `table` meets its contract: the kinds are numbered in the order of the tables.
-use borrow.Author.Needs.{needs}
-use native.Mathlib.Omega.{arith}
-use Rattle.span_table.proofs.Rows.{kind-is}
+-- `table` meets its contract: each arm is a case of the definition.
+use borrow.Author.Tests.{ne-eqb}
 use Rattle.span_table.proofs.table.Statement.{statement}
 use Rattle.span_table.proofs.table.Tie as tie
 
@@ -9,6 +7,11 @@ pub table-spec : {M : Type 1} → statement M
 table-spec =
     tie.close
     (tie.spec
-    (λ c. search needs)
-    (λ c. search needs)
-    (λ c. omega (arith, kind-is (c .args .kind) (c .pre .0) (c .pre .1))))
+    (λ c. rw (c .match .keys1))
+    (λ c. rw (c .match .keys2))
+    (λ c. rw (c .match .keys3))
+    (λ c. rw (
+      ne-eqb _ 1 (c .match .rest .0 .0 .1),
+      ne-eqb _ 2 (c .match .rest .0 .1),
+      ne-eqb _ 3 (c .match .rest .1),
+    )))

@@ -1,7 +1,5 @@
--- `thickness_row` meets its contract: the nominal thicknesses are 2 mm apart.
-use borrow.Author.Needs.{needs}
-use native.Mathlib.Omega.{arith}
-use Rattle.span_table.proofs.Rows.{nominal-is}
+-- `thickness_row` meets its contract: each arm is a case of the definition.
+use borrow.Author.Tests.{ne-eqb}
 use Rattle.span_table.proofs.thickness_row.Statement.{statement}
 use Rattle.span_table.proofs.thickness_row.Tie as tie
 
@@ -9,6 +7,11 @@ pub thickness-row-spec : {M : Type 1} → statement M
 thickness-row-spec =
     tie.close
     (tie.spec
-    (λ c. omega (arith, nominal-is (c .args .thick) (c .pre)))
-    (λ c. search needs)
-    (λ c. omega (arith, nominal-is (c .args .thick) (c .pre))))
+    (λ c. rw (c .match .keys1))
+    (λ c. rw (c .match .keys2))
+    (λ c. rw (c .match .keys3))
+    (λ c. rw (
+      ne-eqb _ 6 (c .match .rest .0 .0 .1),
+      ne-eqb _ 8 (c .match .rest .0 .1),
+      ne-eqb _ 10 (c .match .rest .1),
+    )))

@@ -41,7 +41,7 @@ size : tie.Need-returns-2
 size c = sym (fails-2 _ _ (kind-passes (c .before .before)) (sym (c .before .is-too-small .ensures) ∙ c .if2 .taken))
 
 wide-requires : tie.Need-is-too-wide-requires
-wide-requires c κs = let s = start (past-kind (c .before)) in (s .pre .0, column-of (s .pre .1), s .pre .3)
+wide-requires c κs = let s = start (past-kind (c .before)) in (s .pre .0, column-of (s .pre .1))
 
 wide : tie.Need-returns-3
 wide c =

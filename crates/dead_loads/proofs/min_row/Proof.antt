@@ -1,9 +1,9 @@
 -- `min_row` meets its contract: the row of a fifth of the angle, rounded up, is the one at or next above it.
 use borrow.Author.Needs.{needs}
 use mathlib.Core.Path.{sym}
-use Rattle.uniform_load.proofs.DeadLoads.{in-place}
-use Rattle.uniform_load.proofs.dead_loads.min_row.Statement.{statement}
-use Rattle.uniform_load.proofs.dead_loads.min_row.Tie as tie
+use Rattle.dead_loads.proofs.DeadLoads.{in-place}
+use Rattle.dead_loads.proofs.min_row.Statement.{statement}
+use Rattle.dead_loads.proofs.min_row.Tie as tie
 
 pub min-row-spec : {M : Type 1} → statement M
 min-row-spec =

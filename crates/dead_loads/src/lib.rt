@@ -1,9 +1,7 @@
-// Table 6.1 and the dead loads of a glass: specs/DeadLoads.antt.
-use job_glass::Glass;
+// The dead loads by angle: Table 6.1 of AS 1288, as specs/DeadLoads.antt has it.
 ghost use mathlib.Core.Path.{_≡_};
 ghost use Prim.Native.Nat.{_≤_};
-ghost use Rattle.job_glass.specs.Values.{GlassValues};
-ghost use Rattle.uniform_load.specs.DeadLoads.{maxRow, minRow, maxDeadLoad, minDeadLoad};
+ghost use Rattle.dead_loads.specs.DeadLoads.{maxRow, minRow};
 
 // Maximum and minimum for 6 mm glass at 0, 5, .. 75 degrees, in units of 0.01 kPa.
 const DEAD_LOADS: [[u32; 2]; 16] = [
@@ -41,20 +39,4 @@ pub fn min_row(angle: u32) -> u32
 {
     let row = ((angle + 4) / 5) as usize;
     DEAD_LOADS[row][1]
-}
-
-// The maximum dead load of a glass, by its row's maximum.
-pub fn max_dead_load(row: u32, glass: Glass) -> u32
-    requires { ⌜ (row ≤ 57) × GlassValues glass ⌝ }
-    ensures { λ r. ⌜ r ≡ maxDeadLoad row glass ⌝ }
-{
-    (row * glass.thick + 5) / 6
-}
-
-// The minimum dead load of a glass, by its row's minimum.
-pub fn min_dead_load(row: u32, glass: Glass) -> u32
-    requires { ⌜ (row ≤ 57) × GlassValues glass ⌝ }
-    ensures { λ r. ⌜ r ≡ minDeadLoad row glass ⌝ }
-{
-    row * glass.thick / 6
 }

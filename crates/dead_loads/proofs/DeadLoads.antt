@@ -2,15 +2,17 @@
 -- an angle, and the row at or next above it, with the row that the code reads.
 --     InPlace, in-place    an angle's rows, by their place in the table; none is above 0.57 kPa
 use Prim.Native.Nat.{ℕ, _+_, _/_, _≤_}
-use mathlib.Core.Path.{_≡_}
-use mathlib.Core.Bool.{Bool, _&&_}
+use mathlib.Core.Path.{_≡_, refl}
+use mathlib.Core.Bool.{Bool, true, _&&_}
 use mathlib.Core.List.{List, [], _∷_, map}
 use native.Mathlib.Omega.{arith}
-use lib.Dec.{T, leb, eqb, leb→le, eqb→eq}
+use borrow.Author.Tests.{leb-true, eqb-true}
+use lib.Dec.{leb, eqb}
 use lib.ListN.{getD}
-use Rattle.basics.proofs.Tests.{and-iff}
-use Rattle.span_table.proofs.Upto.{upto, at}
-use Rattle.uniform_load.specs.DeadLoads.{deadLoads, maxRow, minRow}
+use Rattle.basics.proofs.Tests.{both-true}
+use Rattle.ranges.specs.Ranges.{allTo}
+use Rattle.ranges.proofs.All.{all-at}
+use Rattle.dead_loads.specs.DeadLoads.{deadLoads, maxRow, minRow}
 
 -- The table as the code holds it: maximum and minimum.
 abbrev table : List (List ℕ)
@@ -33,15 +35,18 @@ isInPlace angle =
     (eqb (maxRow angle) (maxAt (angle / 5)) && eqb (minRow angle) (minAt ((angle + 4) / 5)))
     && (leb (maxRow angle) 57 && leb (minRow angle) 57)
 
-all-in-place : T (upto 75 isInPlace)
-all-in-place = tt
+all-in-place : allTo isInPlace 75 ≡ true
+unfolding allTo
+all-in-place = refl
 
 pub in-place : (angle : ℕ) → angle ≤ 74 → InPlace angle
 in-place angle h =
-    let t = simp and-iff at (at 75 isInPlace all-in-place angle (omega arith)) in
+    let passed = both-true _ _ (all-at isInPlace 75 all-in-place angle (omega arith)) in
+    let places = both-true _ _ (passed .0) in
+    let bounds = both-true _ _ (passed .1) in
     record {
-      max-is = eqb→eq _ _ (t .0 .0);
-      min-is = eqb→eq _ _ (t .0 .1);
-      max-high = leb→le _ _ (t .1 .0);
-      min-high = leb→le _ _ (t .1 .1);
+      max-is = eqb-true _ _ (places .0);
+      min-is = eqb-true _ _ (places .1);
+      max-high = leb-true _ _ (bounds .0);
+      min-high = leb-true _ _ (bounds .1);
     }

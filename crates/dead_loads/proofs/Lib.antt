@@ -1,0 +1,2 @@
+-- The rows of Table 6.1 by angle.
+pub mod DeadLoads

@@ -1,0 +1,19 @@
+-- Document 01, "The four clauses", clause 4: the dead loads of a glass. Those of Table 6.1 are of 6 mm glass; another thickness
+-- weighs in proportion.
+use Prim.Native.Nat.{ℕ, _+_, _-_, _*_, _/_}
+use Rattle.job_glass.specs.declared.Glass.{Glass}
+
+-- Division to a whole number, up and down.
+abbrev pub dividedUp : ℕ → ℕ → ℕ
+dividedUp n d = (n + (d - 1)) / d
+
+abbrev pub dividedDown : ℕ → ℕ → ℕ
+dividedDown n d = n / d
+
+-- The maximum, from that of its row, rounded up.
+abbrev pub maxDeadLoad : ℕ → Glass → ℕ
+maxDeadLoad maximum g = dividedUp (maximum * g .thick) 6
+
+-- The minimum, from that of its row, rounded down.
+abbrev pub minDeadLoad : ℕ → Glass → ℕ
+minDeadLoad minimum g = dividedDown (minimum * g .thick) 6
