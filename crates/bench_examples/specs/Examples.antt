@@ -37,8 +37,8 @@ pub record Examples : Type 0 where
   pub e : clauses.ExampleE
   pub f : clauses.ExampleF (clauses.glass 1 8 1200 1200)
   -- by two edges and by four, with the other constant too small or too large
-  pub g-two : clauses.ExampleG (clauses.pane 2 2000 100 500 87) (clauses.glass 3 6 1200 1) (clauses.glass 3 6 1199 99999)
-  pub g-four : clauses.ExampleG (clauses.pane 4 2000 200 100 87) (clauses.glass 3 6 1 1200) (clauses.glass 3 6 99999 1199)
+  pub g-two : clauses.ExampleG (clauses.pane 2 2000 100 500 87) (clauses.glass 1 6 1200 1) (clauses.glass 1 6 1199 99999)
+  pub g-four : clauses.ExampleG (clauses.pane 4 2000 200 100 87) (clauses.glass 1 6 1 1200) (clauses.glass 1 6 99999 1199)
   pub h : ExampleH
   pub i : ExampleI
   pub j : (c : Call) → 2 ≤ length (c .answers) → 2 ≤ length (c .group) → Promised (outcomeOf jobJ) c → ExampleJ c

@@ -1,59 +1,42 @@
--- The answer to a question, by what a job that was read has of the two ids.
---     thePane, theGlass                        what the job has of an id
---     found-pane-values, found-glass-values    what it has is of an accepted file
---     no-pane, no-glass, judged                each answer
-use Prim.Native.Nat.{ℕ}
-use mathlib.Core.Path.{_≡_, subst}
+-- The answer to a question, by the places of the two ids.
+--     no-pane, no-glass, judged    each answer
+--     pane-found, glass-found      a place that is found is one of the list
+use Prim.Native.Nat.{ℕ, _<_}
+use mathlib.Core.Path.{_≡_}
 use mathlib.Core.List.{List}
-use lib.ListN.{take}
+use native.Mathlib.Omega.{arith}
+use lib.ListN.{length, length-map}
+use Rattle.ids.specs.Lookup.{placeOf}
+use Rattle.ids.specs.declared.IdPlace.the-variants.{At, Missing}
+use Rattle.ids.proofs.Lookups.{place-found}
+use Rattle.causes.specs.Cause.{numberOf}
 use Rattle.causes.specs.declared.Cause.the-variants.{NoPane, NoGlass}
-use Rattle.job_glass.specs.GlassLine.{blankGlass}
-use Rattle.job_glass.specs.Values.{GlassValues}
 use Rattle.job_glass.specs.declared.Glass.{Glass}
-use Rattle.job_pane.specs.PaneLine.{blankPane}
-use Rattle.job_pane.specs.Values.{PaneValues}
 use Rattle.job_pane.specs.declared.Pane.{Pane}
-use Rattle.job_file.specs.File.{outcomeOf}
-use Rattle.job_file.specs.declared.Reading.{Reading}
-use Rattle.job_file.proofs.Jobs.{Job}
-use Rattle.job_file.proofs.Accepted.{glass-values, pane-values}
+use Rattle.job_file.specs.Job.{glassAt, paneAt, glassIdsOf, paneIdsOf}
 use Rattle.clauses.specs.Verdict.{verdictOf}
-use Rattle.clauses.specs.Lookup.{Lookup, entry, missing, withId}
-use Rattle.clauses.specs.Answer.{refuses, verdictSays, answerOf}
-use Rattle.clauses.proofs.Lookups.{with-id-at}
+use Rattle.clauses.specs.Answer.{refuses, verdictSays, jobAnswer}
 
-module _ {file : List ℕ} {r : Reading} {glasses panes : ℕ} (job : Job file r glasses panes) where
-  -- What the job has of an id.
-  abbrev pub thePane : ℕ → Lookup Pane
-  thePane id = withId (λ p. p .id) id (take panes (r .panes))
+module _ (glasses : List Glass) (panes : List Pane) where
+  pub pane-found : (id p : ℕ) → placeOf id (paneIdsOf panes) ≡ At p → p < length panes
+  pane-found id p e = omega (arith, place-found id (paneIdsOf panes) p e .within, length-map panes (λ x. x .id))
 
-  abbrev pub theGlass : ℕ → Lookup Glass
-  theGlass id = withId (λ g. g .id) id (take glasses (r .glasses))
-
-  pub found-pane-values : (id : ℕ) (p : Pane) → thePane id ≡ entry p → PaneValues p
-  found-pane-values id p e =
-      let s = with-id-at (λ p. p .id) id blankPane (take panes (r .panes)) p e in
-      subst PaneValues (s .is) (pane-values (job .lists .rules) (s .place) (s .within))
-
-  pub found-glass-values : (id : ℕ) (g : Glass) → theGlass id ≡ entry g → GlassValues g
-  found-glass-values id g e =
-      let s = with-id-at (λ g. g .id) id blankGlass (take glasses (r .glasses)) g e in
-      subst GlassValues (s .is) (glass-values (job .lists .rules) (s .place) (s .within))
+  pub glass-found : (id g : ℕ) → placeOf id (glassIdsOf glasses) ≡ At g → g < length glasses
+  glass-found id g e = omega (arith, place-found id (glassIdsOf glasses) g e .within, length-map glasses (λ x. x .id))
 
   module _ (pane glass : ℕ) where
-    pub no-pane : thePane pane ≡ missing → answerOf (outcomeOf file) pane glass ≡ refuses NoPane 0
-    unfolding answerOf
-    no-pane e = rw (job .outcome, answerOf, e)
+    pub no-pane : placeOf pane (paneIdsOf panes) ≡ Missing → jobAnswer glasses panes pane glass ≡ refuses (numberOf NoPane) 0
+    unfolding jobAnswer
+    no-pane e = rw (jobAnswer, e)
 
-    pub no-glass :
-        (p : Pane) →
-        thePane pane ≡ entry p → theGlass glass ≡ missing → answerOf (outcomeOf file) pane glass ≡ refuses NoGlass 0
-    unfolding answerOf
-    no-glass p e f = rw (job .outcome, answerOf, e, f)
+    module _ (p : ℕ) (there : placeOf pane (paneIdsOf panes) ≡ At p) where
+      pub no-glass :
+          placeOf glass (glassIdsOf glasses) ≡ Missing → jobAnswer glasses panes pane glass ≡ refuses (numberOf NoGlass) 0
+      unfolding jobAnswer
+      no-glass e = rw (jobAnswer, there, e)
 
-    pub judged :
-        (p : Pane) (g : Glass) →
-        thePane pane ≡ entry p → theGlass glass ≡ entry g →
-        answerOf (outcomeOf file) pane glass ≡ verdictSays (verdictOf p g)
-    unfolding answerOf
-    judged p g e f = rw (job .outcome, answerOf, e, f)
+      pub judged :
+          (g : ℕ) → placeOf glass (glassIdsOf glasses) ≡ At g →
+          jobAnswer glasses panes pane glass ≡ verdictSays (verdictOf (paneAt panes p) (glassAt glasses g))
+      unfolding jobAnswer
+      judged g e = rw (jobAnswer, there, e)

@@ -1,7 +1,6 @@
--- The verdict, the lookup of ids, the answers to questions.
-pub mod Verdicts
-pub mod Lookups
-pub mod Answers
--- Laws of the verdict; examples (a) to (g).
+-- The front page: laws of the verdict; examples (a) to (g).
 pub mod Laws
 pub mod Examples
+-- The verdict, and the answers to questions.
+pub mod Verdicts
+pub mod Answers

@@ -87,5 +87,5 @@ pub record Examples : Type 0 where
   pub e : ExampleE
   pub f : ExampleF (glass 1 8 1200 1200)
   -- by two edges and by four, with the other constant too small or too large
-  pub g-two : ExampleG (pane 2 2000 100 500 87) (glass 3 6 1200 1) (glass 3 6 1199 99999)
-  pub g-four : ExampleG (pane 4 2000 200 100 87) (glass 3 6 1 1200) (glass 3 6 99999 1199)
+  pub g-two : ExampleG (pane 2 2000 100 500 87) (glass 1 6 1200 1) (glass 1 6 1199 99999)
+  pub g-four : ExampleG (pane 4 2000 200 100 87) (glass 1 6 1 1200) (glass 1 6 99999 1199)

@@ -3,9 +3,8 @@ pub mod Kind
 pub mod Size
 pub mod Verdict
 -- What the call `verdict` answers.
-pub mod Lookup
 pub mod Answer
--- A pane with what the clauses read of it.
+-- What the code works out or makes once.
 pub mod Loaded
 -- What follows from the definitions.
 pub mod Laws

@@ -1,22 +1,21 @@
 // The verdict of a pane and a glass held as values: specs/Verdict.antt.
 use crate::kind::is_barred;
 use crate::size::is_too_small;
+use crate::tables::ClauseTables;
+use crate::tables::clause_tables;
 use job_glass::Glass;
 use job_pane::Pane;
 use point_load::PointLoad;
 use point_load::is_too_wide;
 use point_load::point_load_of;
-use span_table::SpanTable;
-use span_table::all_spans;
 use uniform_load::UniformLoad;
 use uniform_load::is_overloaded;
 use uniform_load::uniform_load_of;
 ghost use mathlib.Core.Path.{_≡_};
 ghost use Rattle.job_glass.specs.Values.{GlassValues};
 ghost use Rattle.job_pane.specs.Values.{PaneValues};
-ghost use Rattle.span_table.specs.Steps.{HasSpans};
 ghost use Rattle.clauses.specs.Verdict.{verdictOf};
-ghost use Rattle.clauses.specs.Loaded.{loadedOf};
+ghost use Rattle.clauses.specs.Loaded.{HasTables, loadedOf};
 
 // A glass passes for a pane, or fails with the number of the first clause that fails.
 pub enum Verdict {
@@ -50,13 +49,13 @@ pub fn judge(pane: Pane, glass: Glass) -> Verdict
     requires { ⌜ PaneValues pane × GlassValues glass ⌝ }
     ensures { λ r. ⌜ r ≡ verdictOf pane glass ⌝ }
 {
-    let table = all_spans();
-    judge_loaded(&table, load_pane(pane), glass)
+    let tables = clause_tables();
+    judge_loaded(&tables, load_pane(pane), glass)
 }
 
-// The verdict of a pane that was loaded before, and a glass. The table of clause 3 is lent, so that it is made once for all.
-pub fn judge_loaded(table: &SpanTable, loaded: LoadedPane, glass: Glass) -> Verdict
-    requires { ⌜ HasSpans (now table) × (loaded ≡ loadedOf (loaded .pane)) × PaneValues (loaded .pane) × GlassValues glass ⌝ }
+// The verdict of a pane that was loaded before, and a glass.
+pub fn judge_loaded(tables: &ClauseTables, loaded: LoadedPane, glass: Glass) -> Verdict
+    requires { ⌜ HasTables (now tables) × (loaded ≡ loadedOf (loaded .pane)) × PaneValues (loaded .pane) × GlassValues glass ⌝ }
     ensures { λ r. ⌜ r ≡ verdictOf (loaded .pane) glass ⌝ }
 {
     let pane = loaded.pane;
@@ -67,7 +66,7 @@ pub fn judge_loaded(table: &SpanTable, loaded: LoadedPane, glass: Glass) -> Verd
         return Verdict::Fails(2);
     }
     let point = loaded.point;
-    if is_too_wide(table, point, glass) {
+    if is_too_wide(tables, point, glass) {
         return Verdict::Fails(3);
     }
     let uniform = loaded.uniform;

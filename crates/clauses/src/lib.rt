@@ -4,21 +4,21 @@
 // ids, as specs/Answer.antt defines. `judge` and `judge_loaded` say it of a pane and a glass held as values.
 mod judging;
 mod kind;
-mod lookup;
+mod question;
 mod size;
+mod tables;
 
+use causes::Cause;
 use job_file::Checked;
 use job_file::read_job;
-use causes::Cause;
 pub use judging::LoadedPane;
 pub use judging::Verdict;
 pub use judging::judge;
 pub use judging::judge_loaded;
 pub use judging::load_pane;
-use lookup::GlassFound;
-use lookup::PaneFound;
-use lookup::find_glass;
-use lookup::find_pane;
+use question::judge_ids;
+pub use tables::ClauseTables;
+pub use tables::clause_tables;
 ghost use mathlib.Core.Path.{_≡_};
 ghost use Rattle.job_file.specs.File.{outcomeOf};
 ghost use Rattle.clauses.specs.Answer.{says, answerOf};
@@ -26,11 +26,7 @@ ghost use Rattle.clauses.specs.Answer.{says, answerOf};
 // The answer to a question: the verdict, or why there is none.
 pub enum Answer {
     Judged(Verdict),
-    // the file is refused
     Refused { cause: Cause, offset: usize },
-    // no pane, or no glass, of the file has that id
-    NoPane,
-    NoGlass,
 }
 
 // Whether the glass of that id may be used for the pane of that id.
@@ -41,16 +37,12 @@ pub fn verdict(file: &[u8], pane: u32, glass: u32) -> Answer
     let checked = reading.checked;
     match checked {
         Checked::Refused { cause, offset } => Answer::Refused { cause, offset },
-        Checked::Accepted { glasses, panes } => {
-            let the_panes = reading.panes;
-            let the_glasses = reading.glasses;
-            match find_pane(the_panes, panes, pane) {
-                PaneFound::Missing => Answer::NoPane,
-                PaneFound::Found(p) => match find_glass(the_glasses, glasses, glass) {
-                    GlassFound::Missing => Answer::NoGlass,
-                    GlassFound::Found(g) => Answer::Judged(judge(p, g)),
-                },
-            }
+        Checked::Accepted {
+            glass_count: _,
+            pane_count: _,
+        } => {
+            let job = reading.job;
+            judge_ids(job, pane, glass)
         }
     }
 }

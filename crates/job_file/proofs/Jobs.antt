@@ -5,11 +5,12 @@
 --     few-glasses, few-panes      the lists are within their arrays
 --     glasses-long, panes-long    which have 64 and 256 entries
 --     glass-at, pane-at           a glass and a pane of a job are of allowed values
+--     ids-front                   the ids of a list at the front of an array
 use Prim.Native.Nat.{ℕ, _≤_, _<_}
 use mathlib.Core.Path.{_≡_, refl, ap, sym, subst, _∙_}
-use mathlib.Core.List.{List}
+use mathlib.Core.List.{List, map}
 use native.Mathlib.Omega.{arith}
-use lib.ListN.{length, length-append, length-replicate}
+use lib.ListN.{length, take, length-append, length-replicate, length-map}
 use lib.Seq.{take-at, getD-take}
 use Rattle.basics.proofs.Tests.{clash}
 use Rattle.causes.specs.Cause.{numberOf}
@@ -104,3 +105,9 @@ module _ (job : Job) (r : ReadJob job) where
   pane-at p l =
       subst PaneValues (getD-take (job .«pane_count») (job .panes) p blankPane l)
       (pane-values (r .rules) p (omega (arith, pane-count)))
+
+-- The ids at the front of an array that is made of a list: those of the list.
+pub ids-front :
+    {A : Type 0} (f : A → ℕ) (size n : ℕ) (xs : List A) (array : List ℕ) →
+    array ≡ padded size 0 (map f xs) → n ≡ length xs → take n array ≡ map f xs
+ids-front f size n xs array is long = rw is (take-at (map f xs) _ n (length-map xs f ∙ sym long))

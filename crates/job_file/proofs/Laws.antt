@@ -1,1 +1,8 @@
--- What the layers above may cite of the reader.
+-- The front page of the reader's laws: what the layers above may cite. Each is stated and proved in the file named.
+-- Of a call of `read_job`: its job, or its refusal.
+pub use Rattle.job_file.proofs.Jobs.{JobOf, job-read, refusal-read}
+pub use Rattle.job_file.proofs.Refused.{refused-within}
+-- Of a job that was read: its counts, its arrays, and the glasses and panes in them.
+pub use Rattle.job_file.proofs.Jobs.{glass-count, pane-count, few-glasses, few-panes, glass-at, pane-at, ids-front}
+-- Of the lists of an accepted file: values and ids.
+pub use Rattle.job_file.proofs.Accepted.{glass-values, pane-values, glass-ids, pane-ids}

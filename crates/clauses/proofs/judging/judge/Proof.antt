@@ -1,4 +1,4 @@
--- `judge` meets its contract: the pane is loaded, and the table is made, for the one glass.
+-- `judge` meets its contract: the pane is loaded, and the tables are made, for the one glass.
 use borrow.Author.Needs.{needs}
 use mathlib.Core.Path.{ap, sym, _∙_}
 use Rattle.clauses.specs.Loaded.{loadedOf}
@@ -11,7 +11,7 @@ requires c κs =
     let is = c .load-pane .ensures in
     let pre = c .before .before .before .pre in
     let pane = ap (λ (l : LoadedPane). l .pane) is in
-    (c .before .before .all-spans .ensures, is ∙ ap loadedOf (sym pane), rw pane (pre .0), pre .1)
+    (c .before .before .clause-tables .ensures, is ∙ ap loadedOf (sym pane), rw pane (pre .0), pre .1)
 
 pub judge-spec : {M : Type 1} → statement M
 judge-spec =
