@@ -55,7 +55,7 @@ pane-writer = record {
   entry-of = λ p. refl;
   of-entry = λ ns e. numbers-from 9 0 ns e;
   small = λ p h fair.
-      let v = allowed-pane p h fair in
+      let v = allowed-pane p h in
       let edges : p .edges ≤ 4 = ⊎-elim (λ e. omega arith) (λ e. omega arith) (v .edges-is) in
       omega (arith, le→leb);
 }
