@@ -1,5 +1,4 @@
 // The answers: what is written for each pane.
-use matching::NO_GLASS;
 ghost use mathlib.Core.Path.{_≡_};
 ghost use Prim.Native.Nat.{_≤_};
 ghost use lib.Dec.{eqb};
@@ -8,8 +7,8 @@ ghost use Rattle.basics.specs.Choice.{if_then_else_};
 ghost use Rattle.row_placing.specs.Lent.{lent};
 ghost use Rattle.row_placing.specs.Steps.{Answered};
 
-// Writes the id of each pane's glass, or 0, and counts the panes that have one.
-pub fn write_answers(held: &[usize], ids: &[u32; 64], answers: &mut [u32]) -> usize
+// Writes the id of each pane's glass, or 0 where `held` has no number of one, and counts the ids that are not 0.
+pub fn write_answers(held: &[usize], ids: &[u32], answers: &mut [u32]) -> usize
     requires { ⌜ length (now held) ≤ length (now answers) ⌝ }
     ensures { λ r. ⌜ Answered (now (ids .entry)) (now (held .entry))
         (lent (now (answers .entry)) (now (answers .exit))) r ⌝ }
@@ -20,7 +19,7 @@ pub fn write_answers(held: &[usize], ids: &[u32; 64], answers: &mut [u32]) -> us
         let pane = next;
         next += 1;
         let number = held[pane];
-        if number < NO_GLASS {
+        if number < ids.len() {
             let id = ids[number];
             answers[pane] = id;
             placed += one_unless_zero(id);

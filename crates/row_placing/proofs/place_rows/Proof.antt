@@ -12,10 +12,10 @@ use Rattle.row_placing.proofs.place_rows.Tie as tie
 
 -- Where the calls were made, and the glasses held, as the search left them.
 abbrev searched : tie.After-write-answers → tie.After-match-panes
-searched w = w .before .before .before .before .before
+searched w = w .before .before .before .before .before .before
 
 abbrev start : tie.After-match-panes → tie.Start
-start m = m .before .before .before .before .before .before .before
+start m = m .before .before .before .before .before .before .before .before
 
 abbrev held : tie.After-match-panes → List ℕ
 held m = m .match-panes .last .1 .1 .0
@@ -23,8 +23,8 @@ held m = m .match-panes .last .1 .1 .0
 held-long : (m : tie.After-match-panes) → length (held m) ≡ length (now (start m .args .rows))
 held-long m = m .match-panes .kept .1 .1 .0 ∙ start m .pre .1
 
-ids-long : (s : tie.Start) → length (now (s .args .glass-ids)) ≡ 64
-ids-long s = search needs
+ids-long : (w : tie.After-write-answers) → length (now (start (searched w) .args .glass-ids)) ≡ 64
+ids-long w = search needs
 
 all-placed : tie.Need-returns
 all-placed c =
@@ -32,7 +32,7 @@ all-placed c =
     let m = searched w in
     let a = start m .args in
     rows-full (now (a .rows)) (now (a .sheets)) (now (a .glass-ids)) (now (a .pane-ids)) (held m) (m .match-panes .result)
-    (held-long m) (ids-long (start m)) (m .match-panes .ensures) (lent (now (a .answers)) (w .write-answers .last .1 .1 .0))
+    (held-long m) (ids-long w) (m .match-panes .ensures) (lent (now (a .answers)) (w .write-answers .last .1 .1 .0))
     (lent (now (a .group)) (now (a .group))) (w .write-answers .result) (w .write-answers .ensures) refl (c .if1 .taken)
 
 some-left : tie.Need-returns-2
@@ -43,7 +43,7 @@ some-left c =
     let m = searched w in
     let a = start m .args in
     rows-short (now (a .rows)) (now (a .sheets)) (now (a .glass-ids)) (now (a .pane-ids)) (held m) (m .match-panes .result)
-    (held-long m) (ids-long (start m)) (m .match-panes .ensures) (lent (now (a .answers)) (w .write-answers .last .1 .1 .0))
+    (held-long m) (ids-long w) (m .match-panes .ensures) (lent (now (a .answers)) (w .write-answers .last .1 .1 .0))
     (lent (now (a .group)) (g .write-group .last .1 .1 .1 .0)) (w .write-answers .result) (w .write-answers .ensures)
     (g .write-group .result) (e .if1 .left) (g .write-group .ensures)
 
