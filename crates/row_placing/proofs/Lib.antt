@@ -1,3 +1,5 @@
+-- The laws that crates above may cite.
+pub mod Laws
 -- Lists of numbers: entries at places, counts of ids, and ids by the numbers of glasses and panes.
 pub mod Entries
 pub mod Ids
@@ -9,5 +11,7 @@ pub mod Groups
 pub mod Shortage
 -- What the code writes, entry by entry.
 pub mod Writes
--- The promise of `place_rows`, from what its parts leave; and of some panes of a schedule.
+-- The promise of `place_rows`, from what its parts leave.
 pub mod Glazing
+-- Some panes of a schedule.
+pub mod SomePanes
