@@ -5,7 +5,6 @@ use Prim.Native.Nat.{ℕ, _≤_, _<_}
 use mathlib.Core.Path.{_≡_, refl, ap, sym, subst, _∙_}
 use mathlib.Core.Logic.{_⊎_, inl, inr}
 use mathlib.Core.List.{List, []}
-use native.Mathlib.Nat.{eq-or-lt-of-le}
 use native.Mathlib.Omega.{arith}
 use lib.ListN.{length, getD, List·getD-eq-default}
 use Rattle.ranges.proofs.Counts.{count-le}
@@ -17,14 +16,14 @@ use Rattle.row_placing.specs.Placing.{nonzero}
 use Rattle.row_placing.specs.ShortGroup.{ShortGroup}
 use Rattle.row_placing.specs.Glazing.{Glazing, PassingNumber, Holding}
 use Rattle.row_placing.specs.Stated.{Stated}
-use Rattle.row_placing.specs.Lent.{Lent}
+use Rattle.row_placing.specs.Lent.{Lent, Wrote, written}
 use Rattle.row_placing.specs.Promise.{RowsGlazed}
-use Rattle.row_placing.specs.Steps.{confinedTo, written, Answered, confinedIds, Grouped}
+use Rattle.row_placing.specs.Steps.{confinedTo, Answered, confinedIds, Grouped}
 use Rattle.row_placing.specs.declared.PlaceCounts.{PlaceCounts}
 use Rattle.row_placing.proofs.Entries.{entries-long, entries-same}
 use Rattle.row_placing.proofs.Ids.{nonzero-le}
 use Rattle.row_placing.proofs.Writes.{wrote}
-use Rattle.row_placing.proofs.Bridge.{held-passes, is-placing, none-spare}
+use Rattle.row_placing.proofs.Bridge.{each-held, is-placing, none-spare}
 use Rattle.row_placing.proofs.Others.{full-placed}
 use Rattle.row_placing.proofs.Groups.{group-length}
 use Rattle.row_placing.proofs.Shortage.{short-group}
@@ -43,22 +42,23 @@ module _
     abbrev counted : ℕ → PlaceCounts
     counted count = record { wanted = length rows; placed = placed; group = count }
 
+    answers-are : Wrote (entriesAt glassIds held) answers
+    answers-are = wrote (entriesAt glassIds held) answers (answered .answers-are)
+
+    few-placed : placed ≤ length rows
+    few-placed =
+        let most = nonzero-le (entriesAt glassIds held) (length rows) (entries-long glassIds held ∙ long) in
+        omega (arith, answered .placed-is)
+
     module _ (s : Schedule) (b : Stated s rows sheets64 glassIds paneIds) where
       as-many : length held ≡ length (s .panes)
       as-many = long ∙ b .a-row-each
 
-      each-held : (p : ℕ) → p < length held → (getD held p 0 ≡ 64) ⊎ PassingNumber s p (getD held p 0)
-      each-held p l = go (eq-or-lt-of-le (best .or-none p (omega arith)))
-        where
-          go : (getD held p 0 ≡ 64) ⊎ (getD held p 0 < 64) → (getD held p 0 ≡ 64) ⊎ PassingNumber s p (getD held p 0)
-          go (inl none) = inl none
-          go (inr below) =
-              let is = held-passes b held tight as-many best p (omega (arith, as-many)) below in
-              inr (record { within = is .0; passing = is .1 })
-
       -- The ids of the glasses held are the schedule's: each is one of its glasses.
       same-ids : entriesAt glassIds held ≡ entriesAt (s .glasses) held
-      same-ids = entries-same glassIds (s .glasses) held (λ p l. go p (each-held p l))
+      same-ids = 
+          entries-same glassIds (s .glasses) held
+          (λ p l. go p (each-held b held tight as-many best p (omega (arith, as-many))))
         where
           go :
               (p : ℕ) → (getD held p 0 ≡ 64) ⊎ PassingNumber s p (getD held p 0) →
@@ -91,11 +91,7 @@ module _
       }
 
       holding : Holding s held (entriesAt (s .glasses) held)
-      holding = record {
-        one-each = as-many;
-        each = λ p l. each-held p (omega (arith, as-many));
-        ids-are = refl;
-      }
+      holding = record { one-each = as-many; each = each-held b held tight as-many best; ids-are = refl }
 
     -- The promise is kept if the group that was written keeps it.
     kept :
@@ -114,18 +110,16 @@ module _
               wanted-is = b .a-row-each;
               group-is = refl;
               answers-written =
-                  wrote (entriesAt (s .glasses) held) answers
-                  (subst (λ (ids : List ℕ). answers .after ≡ written ids (answers .before)) (same-ids s b) (answered .answers-are));
+                  subst (λ (ids : List ℕ). Wrote ids answers) (same-ids s b) answers-are;
               group-written = wrote listed group is;
             };
             holding = holding s b;
           };
       wanted-is = refl;
       held-low = best .or-none;
-      answers-are = wrote (entriesAt glassIds held) answers (answered .answers-are);
+      answers-are = answers-are;
       placed-is = answered .placed-is;
-      few-placed =
-          omega (arith, answered .placed-is, nonzero-le (entriesAt glassIds held) (length rows) (entries-long glassIds held ∙ long));
+      few-placed = few-placed;
       few-listed = few;
     }
 

@@ -18,8 +18,8 @@ use lib.Seq.{take-append-seam, drop-append-seam, take-suc, length-take-le, drop-
 use Rattle.basics.specs.Choice.{if_then_else_}
 use Rattle.row_placing.specs.Schedule.{entriesAt}
 use Rattle.row_placing.specs.Placing.{nonzero}
-use Rattle.row_placing.specs.Lent.{Lent, lent, Wrote}
-use Rattle.row_placing.specs.Steps.{groupTo, written, Answered}
+use Rattle.row_placing.specs.Lent.{Lent, lent, Wrote, written}
+use Rattle.row_placing.specs.Steps.{groupTo, Answered}
 use Rattle.row_placing.proofs.Ids.{nonzero-le}
 
 pub written-next :

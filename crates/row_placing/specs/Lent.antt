@@ -1,7 +1,7 @@
 -- How a call writes a list that its caller lends: document 01, "The placing".
-use mathlib.Core.Path.{_≡_}
-use mathlib.Core.List.{List}
 use Prim.Native.Nat.{ℕ}
+use mathlib.Core.Path.{_≡_}
+use mathlib.Core.List.{List, _++_}
 use lib.ListN.{length, take, drop}
 
 -- A lent list before a call and after it.
@@ -16,3 +16,7 @@ lent before after = record { before = before; after = after }
 pub record Wrote (first : List ℕ) (l : Lent) : Type 0 where
   pub front : take (length first) (l .after) ≡ first
   pub later-kept : drop (length first) (l .after) ≡ drop (length first) (l .before)
+
+-- The list that is left so.
+abbrev pub written : List ℕ → List ℕ → List ℕ
+written first before = first ++ drop (length first) before

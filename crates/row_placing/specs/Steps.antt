@@ -3,16 +3,12 @@ use Prim.Native.Nat.{ℕ, zero, suc}
 use mathlib.Core.Path.{_≡_}
 use mathlib.Core.Bool.{Bool}
 use mathlib.Core.List.{List, [], _∷_, _++_}
-use lib.ListN.{length, getD, drop}
+use lib.ListN.{length, getD}
 use Rattle.basics.specs.Choice.{if_then_else_}
 use Rattle.glass_set.specs.Member.{isWithin}
 use Rattle.row_placing.specs.Schedule.{entriesAt}
 use Rattle.row_placing.specs.Placing.{nonzero}
-use Rattle.row_placing.specs.Lent.{Lent}
-
--- The list that a call leaves which writes its first entries.
-abbrev pub written : List ℕ → List ℕ → List ℕ
-written first before = first ++ drop (length first) before
+use Rattle.row_placing.specs.Lent.{Lent, written}
 
 -- What `write_answers` leaves: the ids of the glasses held in the first entries, and how many are not 0.
 pub record Answered (ids held : List ℕ) (answers : Lent) (placed : ℕ) : Type 0 where
