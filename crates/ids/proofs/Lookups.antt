@@ -1,6 +1,7 @@
 -- The place of an id in a list.
 --     place-here, place-next, place-end    looking from a place on: the id stands there, it does not, no entry is left
 --     Found, place-found                   a place that is found is one of the list, and has the id
+--     place-missing                        an id that is not found stands at no place
 use Prim.Native.Nat.{ℕ, zero, suc, _+_, _≤_, _<_}
 use mathlib.Core.Path.{_≡_, refl, ap, sym, _∙_}
 use mathlib.Core.Bool.{Bool, true, false}
@@ -10,7 +11,7 @@ use native.Mathlib.Omega.{arith}
 use lib.Dec.{eqb}
 use lib.ListN.{length, getD, drop, drop-of-length-le}
 use lib.Seq.{drop-cons}
-use borrow.Author.Tests.{eq-eqb, ne-eqb, eqb-true}
+use borrow.Author.Tests.{eq-eqb, ne-eqb, eqb-true, eqb-false}
 use Rattle.basics.specs.Choice.{if_then_else_}
 use Rattle.basics.proofs.Tests.{clash}
 use Rattle.ids.specs.Lookup.{placeFrom, placeOf}
@@ -67,3 +68,19 @@ place-found id ids place e =
     let f = found-from 0 id ids place e in
     let same : f .behind ≡ place = omega (arith, f .place-is) in
     rw same at (f .found)
+
+missing-from : (from id : ℕ) (ids : List ℕ) (j : ℕ) → placeFrom from id ids ≡ Missing → j < length ids → getD ids j 0 ≡ id → ⊥
+unfolding placeFrom
+missing-from from id [] j e l is = omega arith
+missing-from from id (x ∷ xs) j e l is = go j (eqb x id) refl e l is (missing-from (from + 1) id xs)
+  where
+    go :
+        (j : ℕ) (b : Bool) → eqb x id ≡ b → (if b then At from else placeFrom (from + 1) id xs) ≡ Missing →
+        j < length (x ∷ xs) → getD (x ∷ xs) j 0 ≡ id →
+        ((i : ℕ) → placeFrom (from + 1) id xs ≡ Missing → i < length xs → getD xs i 0 ≡ id → ⊥) → ⊥
+    go j true same e l is later = clash (cc)
+    go zero false other e l is later = eqb-false x id other is
+    go (suc j) false other e l is later = later j e (omega arith) is
+
+pub place-missing : (id : ℕ) (ids : List ℕ) (j : ℕ) → placeOf id ids ≡ Missing → j < length ids → getD ids j 0 ≡ id → ⊥
+place-missing id ids j = missing-from 0 id ids j

@@ -1,6 +1,6 @@
 -- Sums, counts and tests over the numbers below a bound.
 use Prim.Native.Nat.{ℕ, zero, suc, _+_}
-use mathlib.Core.Bool.{Bool, true, _&&_}
+use mathlib.Core.Bool.{Bool, true, false, _&&_, _||_}
 use Rattle.basics.specs.Choice.{if_then_else_}
 
 -- f 0 + f 1 + .. below n.
@@ -20,3 +20,8 @@ countTo test n = sumTo (λ i. one (test i)) n
 unfoldable pub allTo : (ℕ → Bool) → ℕ → Bool
 allTo test zero = true
 allTo test (suc n) = allTo test n && test n
+
+-- Whether some number below n passes a test.
+unfoldable pub anyTo : (ℕ → Bool) → ℕ → Bool
+anyTo test zero = false
+anyTo test (suc n) = anyTo test n || test n

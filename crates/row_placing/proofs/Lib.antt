@@ -1,0 +1,17 @@
+-- The laws that crates above may cite.
+pub mod Laws
+-- Lists of numbers: entries at places, counts of ids, and ids by the numbers of glasses and panes.
+pub mod Entries
+pub mod Ids
+pub mod Numbers
+-- From what the search promises of numbers to what the promise says of ids.
+pub mod Bridge
+pub mod Others
+pub mod Groups
+pub mod Shortage
+-- What the code writes, entry by entry.
+pub mod Writes
+-- The promise of `place_rows`, from what its parts leave.
+pub mod Glazing
+-- Some panes of a schedule.
+pub mod SomePanes

@@ -1,0 +1,73 @@
+-- The glasses and panes of a schedule by their places, here called numbers: since no id stands twice, an id says which one it is.
+--     same-glass      one id, one glass
+--     glass-test      a test of ids is one of numbers
+--     same-pane       one id, one pane
+--     numberOf        the number of the glass of an id, 64 where there is none
+--     number-found    below 64, it is the number of a glass that has the id
+--     number-low      it is below 64 where a glass has the id
+use Prim.Native.Nat.{ℕ, _≤_, _<_}
+use mathlib.Core.Path.{_≡_, refl, ap, sym}
+use mathlib.Core.Bool.{Bool, true, false}
+use mathlib.Core.List.{List}
+use native.Mathlib.Omega.{arith}
+use lib.Dec.{ltb, eqb}
+use lib.ListN.{length, getD, List·getD-eq-default}
+use borrow.Author.Tests.{ltb-true, ltb-false, eqb-true, eqb-false, eq-eqb, ne-eqb}
+use Rattle.ids.specs.Lookup.{placeOf}
+use Rattle.ids.specs.declared.IdPlace.{IdPlace}
+use Rattle.ids.specs.declared.IdPlace.the-variants.{At, Missing}
+use Rattle.ids.proofs.Lookups.{Found, place-found, place-missing}
+use Rattle.row_placing.specs.Schedule.{Schedule}
+use Rattle.row_placing.specs.Stated.{Known}
+
+-- Numbers below a bound whose ids differ where they do are told by their ids.
+module _ (ids : List ℕ) (apart : (i j : ℕ) → i < j → j < length ids → getD ids i 0 ≡ getD ids j 0 → ⊥) where
+  same-number : (i j : ℕ) → i < length ids → j < length ids → getD ids i 0 ≡ getD ids j 0 → i ≡ j
+  same-number i j l k e = go (ltb i j) (ltb j i) refl refl
+    where
+      go : (a b : Bool) → ltb i j ≡ a → ltb j i ≡ b → i ≡ j
+      go true b below above = absurd (apart i j (ltb-true i j below) k e)
+      go false true below above = absurd (apart j i (ltb-true j i above) l (sym e))
+      go false false below above = omega (arith, ltb-false i j below, ltb-false j i above)
+
+module _ {s : Schedule} (known : Known s) where
+  pub same-glass : (g j : ℕ) → j < length (s .glasses) → getD (s .glasses) g 0 ≡ getD (s .glasses) j 0 → g ≡ j
+  same-glass g j l e = go (ltb g (length (s .glasses))) refl
+    where
+      go : (b : Bool) → ltb g (length (s .glasses)) ≡ b → g ≡ j
+      go true below = same-number (s .glasses) (known .glass-ids) g j (ltb-true g (length (s .glasses)) below) l e
+      go false past =
+          let none = List·getD-eq-default (s .glasses) 0 (ltb-false g (length (s .glasses)) past) in
+          absurd (omega (arith, none, known .id-low j l))
+
+  pub glass-test : (g j : ℕ) → j < length (s .glasses) → eqb (getD (s .glasses) g 0) (getD (s .glasses) j 0) ≡ eqb g j
+  glass-test g j l = go (eqb g j) refl
+    where
+      go : (b : Bool) → eqb g j ≡ b → eqb (getD (s .glasses) g 0) (getD (s .glasses) j 0) ≡ b
+      go true same = eq-eqb _ _ (ap (λ (i : ℕ). getD (s .glasses) i 0) (eqb-true g j same))
+      go false other = ne-eqb _ _ (λ e. eqb-false g j other (same-glass g j l e))
+
+  pub same-pane :
+      (p q : ℕ) → p < length (s .panes) → q < length (s .panes) → getD (s .panes) p 0 ≡ getD (s .panes) q 0 → p ≡ q
+  same-pane = same-number (s .panes) (known .pane-ids)
+
+abbrev numberAt : IdPlace → ℕ
+numberAt (At g) = g
+numberAt Missing = 64
+
+abbrev pub numberOf : ℕ → List ℕ → ℕ
+numberOf id ids = numberAt (placeOf id ids)
+
+pub number-found : (id : ℕ) (ids : List ℕ) → numberOf id ids < 64 → Found id ids (numberOf id ids)
+number-found id ids l = go (placeOf id ids) refl l
+  where
+    go : (place : IdPlace) → placeOf id ids ≡ place → numberAt place < 64 → Found id ids (numberAt place)
+    go (At g) is l = place-found id ids g is
+    go Missing is l = absurd (omega arith)
+
+pub number-low : (id : ℕ) (ids : List ℕ) (j : ℕ) → length ids ≤ 64 → j < length ids → getD ids j 0 ≡ id → numberOf id ids < 64
+number-low id ids j few l e = go (placeOf id ids) refl
+  where
+    go : (place : IdPlace) → placeOf id ids ≡ place → numberAt place < 64
+    go (At g) is = omega (arith, place-found id ids g is .within)
+    go Missing is = absurd (place-missing id ids j is l e)

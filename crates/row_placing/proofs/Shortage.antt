@@ -1,0 +1,103 @@
+-- Where a pane is left over, the panes whose passing glasses are all tight are a short group: a glass that suits one of them
+-- is tight, and the search promises that the tight glasses have fewer sheets than there are such panes.
+--     short-group    they are a short group
+use Prim.Native.Nat.{ℕ, _≤_, _<_}
+use mathlib.Core.Path.{_≡_, refl, sym, _∙_}
+use mathlib.Core.Bool.{Bool, true, false, _&&_}
+use mathlib.Core.List.{List}
+use native.Mathlib.Omega.{arith}
+use native.Mathlib.Nat.{le-trans}
+use lib.ListN.{length, getD}
+use Rattle.basics.specs.Choice.{if_then_else_}
+use Rattle.basics.proofs.Tests.{both-true}
+use Rattle.ids.specs.Ids.{among}
+use Rattle.ranges.proofs.Any.{any-found}
+use Rattle.ranges.proofs.Sums.{sum-le, sum-wider}
+use Rattle.glass_set.specs.Member.{has, isWithin}
+use Rattle.glass_set.proofs.Members.{within-at}
+use Rattle.matching.specs.Matching.{sheetsOf, Greatest}
+use Rattle.matching.specs.Rows.{taskOf, wayOf}
+use Rattle.row_placing.specs.Schedule.{Schedule, entriesAt}
+use Rattle.row_placing.specs.Placing.{nonzero}
+use Rattle.row_placing.specs.ShortGroup.{suits, sheetsFor, PaneId, ShortGroup}
+use Rattle.row_placing.specs.Stated.{Stated}
+use Rattle.row_placing.specs.Steps.{confinedTo, confinedIds}
+use Rattle.row_placing.proofs.Ids.{nonzero-le}
+use Rattle.row_placing.proofs.Numbers.{same-pane}
+use Rattle.row_placing.proofs.Bridge.{bit-of-glass, is-placing, placed-served}
+use Rattle.row_placing.proofs.Groups.{InGroup, group-length, group-among, group-at, group-once}
+
+-- What a glass adds to the sheets: its own if it is counted.
+part-le : (a c : Bool) (x y : ℕ) → (a ≡ true → c ≡ true) → x ≡ y → (if a then x else 0) ≤ (if c then y else 0)
+part-le true c x y h e = rw (h refl) (omega arith)
+part-le false c x y h e = omega arith
+
+module _
+    {s : Schedule} {rows sheets64 glassIds paneIds : List ℕ} (b : Stated s rows sheets64 glassIds paneIds)
+  where
+    module _ (tight : ℕ) where
+      abbrev group : List ℕ
+      group = confinedIds paneIds rows tight
+
+      -- A glass that suits the group is tight.
+      suits-tight : (j : ℕ) → j < length (s .glasses) → suits s group j ≡ true → has tight j ≡ true
+      suits-tight j l suited =
+          let f = any-found (λ p. among (getD (s .panes) p 0) group && s .passes p j) (length (s .panes)) suited in
+          let both = both-true (among (getD (s .panes) (f .number) 0) group) (s .passes (f .number) j) (f .passed) in
+          let m = group-among paneIds (confinedTo rows tight) (length rows) (getD (s .panes) (f .number) 0) (both .0) in
+          let here : m .place < length (s .panes) = omega (arith, m .below, b .a-row-each) in
+          let same = same-pane (b .known) (m .place) (f .number) here (f .below) (sym (b .pane-ids-are (m .place) here) ∙ m .is-id) in
+          let row = getD rows (f .number) 0 in
+          let all : isWithin row tight ≡ true = rw same at (m .passed) in
+          within-at row tight all j (omega (arith, b .known .few)) (bit-of-glass b (f .number) j (f .below) l (both .1))
+
+      -- So the group has no more sheets than the tight glasses have.
+      sheets-fewer : sheetsFor s group ≤ sheetsOf (taskOf rows sheets64) (has tight)
+      sheets-fewer =
+          le-trans
+          (sum-le
+          (λ j. if suits s group j then getD (s .sheets) j 0 else 0)
+          (λ j. if has tight j then getD sheets64 j 0 else 0)
+          (length (s .glasses))
+          (λ j l. part-le _ _ _ _ (suits-tight j l) (sym (b .sheets-are j l))))
+          (sum-wider (λ j. if has tight j then getD sheets64 j 0 else 0) (length (s .glasses)) 64 (b .known .few))
+
+    module _
+        (held : List ℕ)
+        (tight : ℕ)
+        (long : length held ≡ length (s .panes))
+        (best : Greatest (taskOf rows sheets64) (wayOf held) (has tight))
+      where
+        -- Some pane is not served, so the tight glasses have fewer sheets than the group has panes.
+        tight-short :
+            (nonzero (entriesAt (s .glasses) held) ≡ length (s .panes) → ⊥) →
+            sheetsOf (taskOf rows sheets64) (has tight) < length (confinedIds paneIds rows tight)
+        tight-short left =
+            let most = nonzero-le (entriesAt (s .glasses) held) (length (s .panes)) (is-placing b held tight long best .one-each) in
+            rw (group-length paneIds (confinedTo rows tight) (length rows))
+            (best .shortage (omega (arith, placed-served b held tight long best, b .a-row-each)))
+
+        pub short-group :
+            (nonzero (entriesAt (s .glasses) held) ≡ length (s .panes) → ⊥) →
+            ShortGroup s (confinedIds paneIds rows tight)
+        short-group left = record {
+          not-empty = omega (arith, tight-short left);
+          of-panes = λ k l. of-panes (group-at paneIds (confinedTo rows tight) (length rows) k l);
+          each-once = group-once paneIds (confinedTo rows tight) (length rows) one-pane;
+          short = omega (arith, tight-short left, sheets-fewer tight);
+        }
+          where
+            id-at : (p : ℕ) → p < length rows → getD paneIds p 0 ≡ getD (s .panes) p 0
+            id-at p l = b .pane-ids-are p (omega (arith, b .a-row-each))
+
+            one-pane : (p q : ℕ) → p < length rows → q < length rows → getD paneIds p 0 ≡ getD paneIds q 0 → p ≡ q
+            one-pane p q l k e =
+                same-pane (b .known) p q (omega (arith, b .a-row-each)) (omega (arith, b .a-row-each))
+                (sym (id-at p l) ∙ e ∙ id-at q k)
+
+            of-panes : {id : ℕ} → InGroup paneIds (confinedTo rows tight) (length rows) id → PaneId s id
+            of-panes m = record {
+              place = m .place;
+              within = omega (arith, m .below, b .a-row-each);
+              is-id = sym (id-at (m .place) (m .below)) ∙ m .is-id;
+            }
