@@ -2,6 +2,7 @@
 --     written-next         one entry more
 --     written-all          all entries
 --     written-padded       over a list that repeats one value
+--     zeros-at             an entry of a list of zeros, or past its end
 --     first-written        the first entries and the later ones
 --     map-same             a list that is worked out in two ways
 --     map-next, map-long   entries that are worked out one by one: one more, and their number
@@ -44,6 +45,11 @@ module _ {A : Type 0} where
     rw is (take-at first (drop (length first) before) n long),
     rw is (drop-at first (drop (length first) before) n long) ∙ ap (λ (k : ℕ). drop k before) long,
   )
+
+pub zeros-at : (n i : ℕ) → _≡_ {A = ℕ} (getD (replicate n 0) i 0) 0
+zeros-at zero i = refl
+zeros-at (suc n) zero = refl
+zeros-at (suc n) (suc i) = zeros-at n i
 
 pub map-same :
     (f g : ℕ → ℕ) (xs : List ℕ) → ((p : ℕ) → p < length xs → f (getD xs p 0) ≡ g (getD xs p 0)) → map f xs ≡ map g xs

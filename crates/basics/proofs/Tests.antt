@@ -2,6 +2,7 @@
 --     clash, differ      whatever follows from two constructors' being equal; from a test that both passes and fails
 --     and-iff, leb-iff   both of two tests; a number at most another
 --     both-true          both of two tests pass
+--     both-false         neither of two tests does
 --     one-of             a number is one of several
 --     same-or-not        two numbers are equal or not
 --     last-or-below      a number below n + 1 is n or below n
@@ -32,6 +33,10 @@ pub both-true : (a b : Bool) → (a && b) ≡ true → (a ≡ true) × (b ≡ tr
 both-true true true e = (refl, refl)
 both-true true false e = differ e refl
 both-true false b e = differ e refl
+
+pub both-false : (a b : Bool) → (a || b) ≡ false → (a ≡ false) × (b ≡ false)
+both-false false b e = (refl, e)
+both-false true b e = differ refl e
 
 pub one-of : {B : Type 0} (n a : ℕ) (others : Bool) → (T others → B) → T (eqb n a || others) → (n ≡ a) ⊎ B
 one-of {B} n a others f h = go (eqb n a) (eqb→eq n a) h

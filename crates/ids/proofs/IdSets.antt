@@ -1,7 +1,7 @@
 -- Sets of ids: the set of none, and what a store to a word makes of every id.
 --     ids-none    no id is in a set of zeros
 --     ids-more    with the bit of an id set in its word, the ids of a list and that one
-use Prim.Native.Nat.{ℕ, zero, suc, _*_, _/_, _%_, _^_, _≤_}
+use Prim.Native.Nat.{ℕ, _*_, _/_, _%_, _^_, _≤_}
 use mathlib.Core.Path.{_≡_, refl, ap, sym, _∙_}
 use mathlib.Core.Bool.{Bool, true, false, _||_, or-false}
 use mathlib.Core.List.{List, [], _∷_, _++_}
@@ -11,16 +11,12 @@ use lib.Bits.{bitOr}
 use lib.Dec.{eqb}
 use lib.ListN.{getD, set, replicate, length-set, length-replicate}
 use lib.Seq.{getD-set-same, getD-set-other}
+use Rattle.basics.proofs.Lists.{zeros-at}
 use Rattle.bits.specs.Bit.{has}
 use Rattle.bits.proofs.Bits.{has-none, has-or, has-one}
 use Rattle.ids.specs.IdSets.{IdSet}
 use Rattle.ids.specs.Ids.{among}
 use Rattle.ids.proofs.Members.{among-append}
-
-zeros-at : (n i : ℕ) → _≡_ {A = ℕ} (getD (replicate n 0) i 0) 0
-zeros-at zero i = refl
-zeros-at (suc n) zero = refl
-zeros-at (suc n) (suc i) = zeros-at n i
 
 pub ids-none : IdSet (replicate 157 0) []
 unfolding among

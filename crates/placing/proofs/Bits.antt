@@ -3,7 +3,8 @@
 --     RowTo                    the row of a pane, of the first glasses of an array
 --     row-none, row-next       of no glass, and of one glass more
 --     row-of                   of all glasses of a file
---     RowsTo, rows-next        the rows of the first panes, and of one pane more
+--     RowsTo, rows-none        the rows of the first panes, and 0 behind them; of no pane
+--     rows-next, rows-all      of one pane more, and of all
 use Prim.Native.Nat.{ℕ, _+_, _≤_, _<_}
 use mathlib.Core.Path.{_≡_, refl, ap, sym, _∙_}
 use mathlib.Core.Logic.{_⊎_, inl, inr}
@@ -12,17 +13,21 @@ use mathlib.Core.List.{List}
 use native.Mathlib.Nat.{eq-or-lt-of-le}
 use native.Mathlib.Omega.{arith}
 use lib.Dec.{ltb, eqb}
-use lib.ListN.{length, getD, set, take, length-set}
+use lib.ListN.{length, getD, set, take, replicate, length-set, length-map, length-replicate}
 use lib.Seq.{getD-take, getD-set-same, getD-set-other}
 use borrow.Author.Tests.{eq-eqb, ne-eqb, lt-ltb, le-ltb, ltb-true, ltb-false}
 use Rattle.job_glass.specs.GlassLine.{blankGlass}
 use Rattle.job_glass.specs.declared.Glass.{Glass}
 use Rattle.job_pane.specs.declared.Pane.{Pane}
+use Rattle.basics.proofs.Lists.{zeros-at}
 use Rattle.basics.proofs.Tests.{same-or-not, one-more}
 use Rattle.glass_set.specs.Member.{has, Members}
 use Rattle.glass_set.proofs.Members.{has-none}
-use Rattle.placing.specs.Passing.{passes, paneAt, glassAt}
-use Rattle.placing.specs.Stated.{RowOf}
+use Rattle.job_file.specs.Job.{glassAt, paneAt, stocksOf}
+use Rattle.row_placing.specs.Schedule.{Schedule}
+use Rattle.row_placing.specs.Stated.{RowOf}
+use Rattle.placing.specs.Passing.{passes, scheduleOf}
+use Rattle.placing.specs.Steps.{JobRows}
 
 module _ (row number : ℕ) (pass : Bool) where
   pub bit-passes :
@@ -64,28 +69,47 @@ row-next pane glasses n row more r is g l = is g l ∙ rw (r g l) (go (same-or-n
 
 -- The row of a pane over an array is that over the file's glasses, at its front.
 pub row-of :
-    (pane : Pane) (array : List Glass) (n row : ℕ) → length (take n array) ≡ n → RowTo pane array n row →
-    RowOf pane (take n array) row
-row-of pane array n row long r g l = r g l ∙ rw long (go (ltb g n) refl)
+    (glasses : List Glass) (panes : List Pane) (p : ℕ) (array : List Glass) (n row : ℕ) →
+    glasses ≡ take n array → n ≡ length glasses → RowTo (paneAt panes p) array n row →
+    RowOf (scheduleOf glasses (stocksOf glasses) panes) p row
+row-of glasses panes p array n row front long r g l =
+    r g l ∙ rw (length-map glasses (λ x. x .id), ← long) (go (ltb g n) refl)
   where
     go :
         (b : Bool) → ltb g n ≡ b →
-        (b && passes pane (glassAt array g)) ≡ (b && passes pane (glassAt (take n array) g))
-    go true e = ap (passes pane) (sym (getD-take n array g blankGlass (ltb-true g n e)))
+        (b && passes (paneAt panes p) (glassAt array g)) ≡ (b && passes (paneAt panes p) (glassAt glasses g))
+    go true e =
+        ap (passes (paneAt panes p)) (sym (getD-take n array g blankGlass (ltb-true g n e)) ∙ ap (λ (l : List Glass). glassAt l g) (sym front))
     go false e = refl
 
--- The rows of the panes below a number.
-pub record RowsTo (panes : List Pane) (glasses : List Glass) (n : ℕ) (rows : List ℕ) : Type 0 where
-  pub long : length rows ≡ 256
-  pub each : (p : ℕ) → p < n → RowOf (paneAt panes p) glasses (getD rows p 0)
+module _ (s : Schedule) where
+  -- The rows of the panes below a number, and 0 from there on.
+  pub record RowsTo (n : ℕ) (rows : List ℕ) : Type 0 where
+    pub long : length rows ≡ 256
+    pub each : (p : ℕ) → p < n → RowOf s p (getD rows p 0)
+    pub none-later : (p : ℕ) → n ≤ p → getD rows p 0 ≡ 0
 
-pub rows-next :
-    (panes : List Pane) (glasses : List Glass) (n row : ℕ) (rows : List ℕ) → n < 256 →
-    RowsTo panes glasses n rows → RowOf (paneAt panes n) glasses row → RowsTo panes glasses (n + 1) (set rows n row)
-rows-next panes glasses n row rows l r is = record {
-  long = length-set rows n row ∙ r .long;
-  each =
-      one-more (λ p. RowOf (paneAt panes p) glasses (getD (set rows n row) p 0)) n
-      (λ p k. rw (getD-set-other rows n p row 0 (λ same. omega (arith, same))) (r .each p k))
-      (rw (getD-set-same rows n row 0 (omega (arith, r .long))) is);
-}
+  pub rows-none : RowsTo 0 (replicate 256 0)
+  rows-none = record {
+    long = length-replicate {A = ℕ} 256 0;
+    each = λ p l. absurd (omega arith);
+    none-later = λ p l. zeros-at 256 p;
+  }
+
+  pub rows-next :
+      (n row : ℕ) (rows : List ℕ) → n < 256 → RowsTo n rows → RowOf s n row → RowsTo (n + 1) (set rows n row)
+  rows-next n row rows l r is = record {
+    long = length-set rows n row ∙ r .long;
+    each =
+        one-more (λ p. RowOf s p (getD (set rows n row) p 0)) n
+        (λ p k. rw (getD-set-other rows n p row 0 (λ same. omega (arith, same))) (r .each p k))
+        (rw (getD-set-same rows n row 0 (omega (arith, r .long))) is);
+    none-later =
+        λ p k. getD-set-other rows n p row 0 (λ same. omega (arith, same)) ∙ r .none-later p (omega arith);
+  }
+
+  pub rows-all : (n : ℕ) (rows : List ℕ) → n ≡ length (s .panes) → RowsTo n rows → JobRows s rows
+  rows-all n rows all r = record {
+    of-panes = λ p l. r .each p (omega (arith, all));
+    none-later = λ p l. r .none-later p (omega (arith, all));
+  }

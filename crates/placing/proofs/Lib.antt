@@ -1,15 +1,7 @@
--- Lists of ids, by the numbers of their entries and by those of glasses and panes.
-pub mod Ids
-pub mod Numbers
--- From what the search promises of numbers to what the promise says of ids.
-pub mod Bridge
-pub mod Others
-pub mod Groups
-pub mod Shortage
--- What the code writes and reads, entry by entry.
-pub mod Writes
+-- The front page: what crates above may cite.
+pub mod Laws
+-- The rows are the verdicts; rows, stocks and ids state the schedule of a job.
 pub mod Bits
--- The promise of the call, from what its parts leave.
-pub mod Glazing
-pub mod Fronts
+pub mod Schedules
+-- The promise of the call, by what the file says.
 pub mod Promises

@@ -1,75 +1,79 @@
 -- `place` meets its contract: the file's own refusal, the refusal of a lent list, or the placing of the job that was read.
 use borrow.Author.Needs.{needs}
-use native.Mathlib.Omega.{arith}
-use mathlib.Core.Logic.{inl, inr}
+use Prim.Native.Nat.{ℕ}
+use mathlib.Core.Path.{_≡_, refl, subst}
+use mathlib.Core.Bool.{Bool, true, false, _||_}
+use lib.Dec.{ltb}
+use lib.ListN.{length}
+use borrow.Author.Tests.{ltb-false}
 use denote.Ref.{now}
+use Rattle.basics.proofs.Tests.{both-false}
 use Rattle.job_file.specs.File.{outcomeOf}
-use Rattle.job_file.proofs.Jobs.{Job, job-read, refusal-read}
+use Rattle.job_file.specs.Job.{panesOf}
+use Rattle.job_file.proofs.Laws.{JobOf, job-read, refusal-read, pane-count}
 use Rattle.placing.specs.Promise.{countsSay}
-use Rattle.placing.proofs.Promises.{promised-refusal, promised-short, promised-glazed}
+use Rattle.placing.proofs.Promises.{promised-refusal, promised-short, promised-counted}
 use Rattle.placing.proofs.place.Statement.{statement}
 use Rattle.placing.proofs.place.Tie as tie
 
-abbrev start : tie.After-checked2 → tie.Start
-start k = k .before .before .before .before .before .before
+-- Where the file was read, and the job that was read of it.
+abbrev start : tie.After-read-job → tie.Start
+start r = r .before .before .before .before
 
--- The job that was read.
-job :
-    (k : tie.After-checked2) →
-    Job (now (start k .args .file)) (k .before .before .read-job .result) (k .checked2 .given .0 .0) (k .checked2 .given .0 .1 .0)
+abbrev read : tie.After-job → tie.After-read-job
+read k = k .before .before .before
+
+job : (k : tie.After-job) → let r = read k in JobOf (now (start r .args .file)) (r .read-job .result .job)
 job k =
-    let v = k .checked2 .given in
-    let r = k .before .before .read-job in
-    job-read (now (start k .args .file)) (r .result) (v .0 .0) (v .0 .1 .0) (r .ensures) (v .1)
+    let r = read k in
+    job-read (now (start r .args .file)) (r .read-job .result) _ _ (r .read-job .ensures) (k .before .enum-told .given .1)
 
--- The promise where a lent list is too short.
-no-answers : tie.Need-returns
-no-answers c =
-    let k = c .before .before in
-    let a = start k .args in
-    let j = job k in
-    promised-short (outcomeOf (now (a .file))) (now (a .answers)) (now (a .group)) _ _ (j .outcome)
-    (inl (omega (arith, j .lists .pane-count, c .if1 .taken)))
+-- What the test says of the panes of the file.
+test-is :
+    (k : tie.After-job) (b : Bool) →
+    let a = start (read k) .args in
+    let count = read k .read-job .result .job .«pane_count» in
+    (ltb (length (now (a .answers))) count || ltb (length (now (a .group))) count) ≡ b →
+    let panes = length (panesOf (read k .read-job .result .job)) in
+    (ltb (length (now (a .answers))) panes || ltb (length (now (a .group))) panes) ≡ b
+test-is k b e =
+    let a = start (read k) .args in
+    subst (λ (n : ℕ). (ltb (length (now (a .answers))) n || ltb (length (now (a .group))) n) ≡ b)
+    (pane-count (read k .read-job .result .job) (job k .read)) e
 
-no-group : tie.Need-returns-2
-no-group c =
+too-short : tie.Need-returns
+too-short c =
     let k = c .before .before .before in
-    let a = start k .args in
-    let j = job k in
-    promised-short (outcomeOf (now (a .file))) (now (a .answers)) (now (a .group)) _ _ (j .outcome)
-    (inr (omega (arith, j .lists .pane-count, c .if2 .taken)))
+    let a = start (read k) .args in
+    promised-short (outcomeOf (now (a .file))) (now (a .answers)) (now (a .group)) _ _ (job k .outcome)
+    (test-is k true (c .if1 .taken))
 
-refused : tie.Need-returns-3
+panes-requires : tie.Need-place-panes-requires
+panes-requires c κs =
+    let e = c .before .before in
+    let k = e .before .before .before in
+    let long = both-false _ _ (e .if1 .left) in
+    (job k .read, ltb-false _ _ (long .0), ltb-false _ _ (long .1))
+
+refused : tie.Need-returns-2
 refused c =
     let k = c .before in
     let r = k .before .before in
-    let a = r .before .before .before .before .args in
+    let a = start r .args in
     let v = k .checked .given in
     promised-refusal (outcomeOf (now (a .file))) (now (a .answers)) (now (a .group)) _ _
     (refusal-read (now (a .file)) (r .read-job .result) (v .0 .0) (v .0 .1 .0) (r .read-job .ensures) (v .1))
 
-panes-requires : tie.Need-place-panes-requires
-panes-requires c κs =
-    let e = c .before .before .before .before in
-    let k = e .before .before .before in
-    let j = job k in (
-      j .lists,
-      e .before .if1 .left,
-      e .if2 .left,
-    )
-
-glazed : tie.Need-returns-4
-glazed c =
+counted : tie.Need-returns-3
+counted c =
     let p = c .before .before .before .before in
-    let e = p .before .before .before .before .before in
+    let e = p .before .before .before in
     let k = e .before .before .before in
-    let a = start k .args in
-    let j = job k in
-    promised-glazed (outcomeOf (now (a .file))) (now (a .answers)) (now (a .group)) _ _ (j .outcome)
-    (countsSay (p .place-panes .result)) (p .place-panes .last .1 .1 .1 .1 .0) (p .place-panes .last .1 .1 .1 .1 .1 .0)
-    (omega (arith, j .lists .pane-count, e .before .if1 .left))
-    (omega (arith, j .lists .pane-count, e .if2 .left))
-    (p .place-panes .ensures)
+    let a = start (read k) .args in
+    promised-counted (outcomeOf (now (a .file))) (now (a .answers)) (now (a .group)) _ _ (job k .outcome)
+    (countsSay (p .place-panes .result)) (p .place-panes .last .1 .0) (p .place-panes .last .1 .1 .0)
+    (test-is k false (e .if1 .left))
+    (record { of = p .place-panes .result; result = refl; glazed = p .place-panes .ensures })
 
 pub place-spec : {M : Type 1} → statement M
 place-spec =
@@ -78,10 +82,9 @@ place-spec =
     (λ c κs. search needs)
     (λ c. search needs)
     (λ c. search needs)
-    no-answers
-    no-group
+    too-short
     panes-requires
     refused
     (λ c. search needs)
     (λ c. search needs)
-    glazed)
+    counted)

@@ -1,0 +1,67 @@
+-- The rows, stocks and ids that are made of a job that was read state its schedule.
+--     known-file    an accepted file has what the placing asks of a schedule
+--     stated-job    the numbers of a job state its schedule
+use Prim.Native.Nat.{ℕ, _≤_, _<_}
+use mathlib.Core.Path.{_≡_, ap, sym, _∙_}
+use mathlib.Core.List.{List}
+use native.Mathlib.Omega.{arith}
+use lib.ListN.{length, getD, take, length-map, List·getD-map, List·getD-append}
+use lib.Seq.{length-take-le, getD-take}
+use Rattle.job_part.specs.Arrays.{padded}
+use Rattle.job_glass.specs.GlassLine.{blankGlass}
+use Rattle.job_glass.specs.declared.Glass.{Glass}
+use Rattle.job_pane.specs.PaneLine.{blankPane}
+use Rattle.job_pane.specs.declared.Pane.{Pane}
+use Rattle.job_file.specs.Job.{glassesOf, panesOf, glassIdsOf, paneIdsOf, stocksOf}
+use Rattle.job_file.specs.Rules.{Rules, ReadJob}
+use Rattle.job_file.specs.declared.job.Job.{Job}
+use Rattle.job_file.proofs.Laws.{glass-values, glass-ids, pane-ids, few-panes, pane-count, ids-front}
+use Rattle.row_placing.specs.Stated.{Known, Stated}
+use Rattle.placing.specs.Passing.{scheduleOf}
+use Rattle.placing.specs.Steps.{JobRows}
+
+module _ {glasses : List Glass} {panes : List Pane} (rules : Rules glasses panes) where
+  glass-id-at : (g : ℕ) → getD (glassIdsOf glasses) g 0 ≡ getD glasses g blankGlass .id
+  glass-id-at g = List·getD-map (λ x. x .id) glasses g blankGlass
+
+  pane-id-at : (p : ℕ) → getD (paneIdsOf panes) p 0 ≡ getD panes p blankPane .id
+  pane-id-at p = List·getD-map (λ x. x .id) panes p blankPane
+
+  pub known-file : (sheets : List ℕ) → Known (scheduleOf glasses sheets panes)
+  known-file sheets = record {
+    few = rw length-map (rules .of-glasses .at-most);
+    id-low = λ g l. rw (glass-id-at g) (glass-values rules g (rw length-map at l) .id-low);
+    glass-ids = λ i j l k e. glass-ids rules i j l (rw length-map at k) (sym (glass-id-at i) ∙ e ∙ glass-id-at j);
+    pane-ids = λ i j l k e. pane-ids rules i j l (rw length-map at k) (sym (pane-id-at i) ∙ e ∙ pane-id-at j);
+  }
+
+module _ (job : Job) (r : ReadJob job) (rows stocks glassIds paneIds : List ℕ) where
+  abbrev glasses : List Glass
+  glasses = glassesOf job
+
+  abbrev panes : List Pane
+  panes = panesOf job
+
+  -- An entry of a list at the front of an array.
+  at-front : (xs array : List ℕ) (g : ℕ) → array ≡ padded 64 0 xs → g < length xs → getD array g 0 ≡ getD xs g 0
+  at-front xs array g is l = rw is (List·getD-append xs _ 0 g l)
+
+  pub stated-job :
+      length rows ≡ 256 → JobRows (scheduleOf glasses (stocksOf glasses) panes) rows →
+      stocks ≡ padded 64 0 (stocksOf glasses) → glassIds ≡ padded 64 0 (glassIdsOf glasses) →
+      paneIds ≡ padded 256 0 (paneIdsOf panes) →
+      Stated (scheduleOf glasses (stocksOf glasses) panes) (take (job .«pane_count») rows) stocks glassIds
+      (take (job .«pane_count») paneIds)
+  stated-job long are-rows s g p = record {
+    known = known-file (r .rules) (stocksOf glasses);
+    a-row-each = length-take-le (job .«pane_count») rows (omega (arith, long, few-panes job r)) ∙ as-many;
+    rows-are =
+        λ i l j k. rw (getD-take (job .«pane_count») rows i 0 (omega (arith, as-many))) (are-rows .of-panes i l j k);
+    sheets-are = λ i l. at-front (stocksOf glasses) stocks i s (rw length-map (rw length-map at l));
+    glass-ids-are = λ i l. at-front (glassIdsOf glasses) glassIds i g l;
+    pane-ids-are =
+        λ i l. ap (λ (ids : List ℕ). getD ids i 0) (ids-front (λ x. x .id) 256 (job .«pane_count») panes paneIds p (pane-count job r));
+  }
+    where
+      as-many : job .«pane_count» ≡ length (paneIdsOf panes)
+      as-many = pane-count job r ∙ sym (length-map panes (λ x. x .id))
