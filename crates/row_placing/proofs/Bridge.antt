@@ -5,7 +5,7 @@
 --     is-placing       the ids of the glasses held are a placing
 --     placed-served    they place as many panes as the search serves
 --     placed-le        they place no more panes than there are
---     none-spare       a pane left with 0 has no passing glass with a sheet to spare
+--     none-spare       where a pane has 0, every sheet that it could have is given away
 use Prim.Native.Nat.{ℕ, _≤_, _<_}
 use mathlib.Core.Path.{_≡_, sym, _∙_}
 use mathlib.Core.Logic.{_⊎_, inl, inr}
