@@ -4,8 +4,9 @@
 --     each-held        a pane holds no glass, or one that passes for it
 --     is-placing       the ids of the glasses held are a placing
 --     placed-served    they place as many panes as the search serves
---     none-spare       a pane left with 0 has no passing glass with a sheet to spare
-use Prim.Native.Nat.{ℕ, _<_}
+--     placed-le        they place no more panes than there are
+--     none-spare       where a pane has 0, every sheet that it could have is given away
+use Prim.Native.Nat.{ℕ, _≤_, _<_}
 use mathlib.Core.Path.{_≡_, sym, _∙_}
 use mathlib.Core.Logic.{_⊎_, inl, inr}
 use mathlib.Core.Bool.{true, not}
@@ -25,7 +26,7 @@ use Rattle.row_placing.specs.Placing.{times, nonzero, PassingId, Placing
 use Rattle.row_placing.specs.Glazing.{PassingNumber}
 use Rattle.row_placing.specs.Stated.{Stated}
 use Rattle.row_placing.proofs.Entries.{entries-long, entry-at}
-use Rattle.row_placing.proofs.Ids.{times-count, nonzero-count}
+use Rattle.row_placing.proofs.Ids.{times-count, nonzero-count, nonzero-le}
 use Rattle.row_placing.proofs.Numbers.{glass-test}
 
 module _
@@ -126,6 +127,9 @@ module _
             (λ p. ltb (getD held p 0) 64)
             (length rows)
             (λ p k. nonzero-held p (omega (arith, b .a-row-each)))
+
+        pub placed-le : nonzero (entriesAt (s .glasses) held) ≤ length (s .panes)
+        placed-le = nonzero-le ids (length (s .panes)) (is-placing .one-each)
 
         pub none-spare : NoneToSpare s (entriesAt (s .glasses) held)
         none-spare i l zero j k pass = go (each-held i l)

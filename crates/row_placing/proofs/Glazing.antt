@@ -1,7 +1,7 @@
 -- The promise of `place_rows`, from what each part of it leaves: the search, the answers and the group.
 --     rows-full     every pane is placed
 --     rows-short    a pane is left over, and the group is written
-use Prim.Native.Nat.{ℕ, _≤_, _<_}
+use Prim.Native.Nat.{ℕ, _≤_}
 use mathlib.Core.Path.{_≡_, refl, ap, sym, subst, _∙_}
 use mathlib.Core.Logic.{_⊎_, inl, inr}
 use mathlib.Core.List.{List, []}
@@ -56,7 +56,7 @@ module _
 
       -- The ids of the glasses held are the schedule's: each is one of its glasses.
       same-ids : entriesAt glassIds held ≡ entriesAt (s .glasses) held
-      same-ids = 
+      same-ids =
           entries-same glassIds (s .glasses) held
           (λ p l. go p (each-held b held tight as-many best p (omega (arith, as-many))))
         where
@@ -109,8 +109,7 @@ module _
               glazing = glazing s b listed equal (less s b);
               wanted-is = b .a-row-each;
               group-is = refl;
-              answers-written =
-                  subst (λ (ids : List ℕ). Wrote ids answers) (same-ids s b) answers-are;
+              answers-written = subst (λ (ids : List ℕ). Wrote ids answers) (same-ids s b) answers-are;
               group-written = wrote listed group is;
             };
             holding = holding s b;

@@ -19,9 +19,9 @@ use Rattle.matching.specs.Rows.{taskOf, wayOf}
 use Rattle.row_placing.specs.Schedule.{Schedule, entriesAt}
 use Rattle.row_placing.specs.Placing.{times, nonzero, PassingId, Placing, FullPlacing}
 use Rattle.row_placing.specs.Stated.{Stated}
-use Rattle.row_placing.proofs.Ids.{times-count, nonzero-count, nonzero-le}
+use Rattle.row_placing.proofs.Ids.{times-count, nonzero-count}
 use Rattle.row_placing.proofs.Numbers.{same-glass, numberOf, number-found, number-low}
-use Rattle.row_placing.proofs.Bridge.{bit-of-glass, is-placing, placed-served}
+use Rattle.row_placing.proofs.Bridge.{bit-of-glass, placed-served, placed-le}
 
 module _
     {s : Schedule} {rows sheets64 glassIds paneIds : List ℕ} (b : Stated s rows sheets64 glassIds paneIds)
@@ -93,7 +93,8 @@ module _
               (getD ids p 0 ≡ 0) ⊎ PassingId s p (getD ids p 0) → ltb (way p) 64 ≡ true
           go p some (inl none) = absurd (eqb-false (getD ids p 0) 0 some none)
           go p some (inr given) =
-              lt-ltb (way p) 64 (number-low (getD ids p 0) (s .glasses) (given .place) (b .known .few) (given .within) (given .is-id))
+              lt-ltb (way p) 64
+              (number-low (getD ids p 0) (s .glasses) (given .place) (b .known .few) (given .within) (given .is-id))
 
     module _
         (held : List ℕ)
@@ -108,5 +109,4 @@ module _
 
         pub full-placed : FullPlacing s → nonzero (entriesAt (s .glasses) held) ≡ length (s .panes)
         full-placed full =
-            let most = nonzero-le (entriesAt (s .glasses) held) (length (s .panes)) (is-placing b held tight long best .one-each) in
-            omega (arith, placing-le (full .ids) (full .placing), full .every-pane)
+            omega (arith, placed-le b held tight long best, placing-le (full .ids) (full .placing), full .every-pane)

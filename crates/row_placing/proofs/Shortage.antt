@@ -22,9 +22,8 @@ use Rattle.row_placing.specs.Placing.{nonzero}
 use Rattle.row_placing.specs.ShortGroup.{suits, sheetsFor, PaneId, ShortGroup}
 use Rattle.row_placing.specs.Stated.{Stated}
 use Rattle.row_placing.specs.Steps.{confinedTo, confinedIds}
-use Rattle.row_placing.proofs.Ids.{nonzero-le}
 use Rattle.row_placing.proofs.Numbers.{same-pane}
-use Rattle.row_placing.proofs.Bridge.{bit-of-glass, is-placing, placed-served}
+use Rattle.row_placing.proofs.Bridge.{bit-of-glass, placed-served, placed-le}
 use Rattle.row_placing.proofs.Groups.{InGroup, group-length, group-among, group-at, group-once}
 
 -- What a glass adds to the sheets: its own if it is counted.
@@ -46,7 +45,8 @@ module _
           let both = both-true (among (getD (s .panes) (f .number) 0) group) (s .passes (f .number) j) (f .passed) in
           let m = group-among paneIds (confinedTo rows tight) (length rows) (getD (s .panes) (f .number) 0) (both .0) in
           let here : m .place < length (s .panes) = omega (arith, m .below, b .a-row-each) in
-          let same = same-pane (b .known) (m .place) (f .number) here (f .below) (sym (b .pane-ids-are (m .place) here) ∙ m .is-id) in
+          let id = sym (b .pane-ids-are (m .place) here) ∙ m .is-id in
+          let same = same-pane (b .known) (m .place) (f .number) here (f .below) id in
           let row = getD rows (f .number) 0 in
           let all : isWithin row tight ≡ true = rw same at (m .passed) in
           within-at row tight all j (omega (arith, b .known .few)) (bit-of-glass b (f .number) j (f .below) l (both .1))
@@ -73,7 +73,7 @@ module _
             (nonzero (entriesAt (s .glasses) held) ≡ length (s .panes) → ⊥) →
             sheetsOf (taskOf rows sheets64) (has tight) < length (confinedIds paneIds rows tight)
         tight-short left =
-            let most = nonzero-le (entriesAt (s .glasses) held) (length (s .panes)) (is-placing b held tight long best .one-each) in
+            let most = placed-le b held tight long best in
             rw (group-length paneIds (confinedTo rows tight) (length rows))
             (best .shortage (omega (arith, placed-served b held tight long best, b .a-row-each)))
 

@@ -1,5 +1,5 @@
--- Some panes of a schedule, each once, are stated by their own rows and ids: what holds of a pane at a place of the schedule holds
--- of it at its new place. The sheets may be others.
+-- Some panes of a schedule, each once, are stated by their own rows and ids, since what the schedule says of a pane goes with it.
+-- The sheets may be others.
 --     some-stated    they are stated
 use Prim.Native.Nat.{ℕ, _<_}
 use mathlib.Core.Path.{_≡_, sym, _∙_}

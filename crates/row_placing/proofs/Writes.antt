@@ -6,7 +6,7 @@
 --     answered-none, answered-next    the ids of the glasses held, of no pane and of one pane more
 --     answered-le                     no more panes are placed than are answered
 --     grouped-in, grouped-out         the ids of the group, with the next pane and without
-use Prim.Native.Nat.{ℕ, suc, _+_, _≤_, _<_}
+use Prim.Native.Nat.{ℕ, _+_, _≤_, _<_}
 use mathlib.Core.Path.{_≡_, refl, ap, subst, _∙_}
 use mathlib.Core.Bool.{Bool, true, false}
 use mathlib.Core.List.{List, [], _∷_, _++_, map, map-append, append-nil}

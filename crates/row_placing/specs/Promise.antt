@@ -20,7 +20,7 @@ pub record Glazed (s : Schedule) (r : PlaceCounts) (answers group : Lent) : Type
   pub answers-written : Wrote ids answers
   pub group-written : Wrote group-ids group
 
--- And it left the places of the glasses.
+-- The same, with the places of the glasses in `held`.
 pub record HeldGlazed (s : Schedule) (held : List ℕ) (r : PlaceCounts) (answers group : Lent) : Type 0 where
   pub glazed : Glazed s r answers group
   pub holding : Holding s held (glazed .ids)
