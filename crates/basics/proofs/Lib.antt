@@ -1,4 +1,4 @@
 -- Tests, and numbers by whether they are equal.
 pub mod Tests
--- Lists that are written at their front.
-pub mod Lists
+-- Lists that a caller lends.
+pub mod Lent

@@ -1,4 +1,4 @@
 -- The choice by a test.
 pub mod Choice
--- Lists that are written at their front.
-pub mod Lists
+-- Lists that a caller lends.
+pub mod Lent

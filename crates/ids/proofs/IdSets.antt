@@ -11,7 +11,7 @@ use lib.Bits.{bitOr}
 use lib.Dec.{eqb}
 use lib.ListN.{getD, set, replicate, length-set, length-replicate}
 use lib.Seq.{getD-set-same, getD-set-other}
-use Rattle.basics.proofs.Lists.{zeros-at}
+use Rattle.basics.proofs.Lent.{zeros-at}
 use Rattle.bits.specs.Bit.{has}
 use Rattle.bits.proofs.Bits.{has-none, has-or, has-one}
 use Rattle.ids.specs.IdSets.{IdSet}

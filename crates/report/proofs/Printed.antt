@@ -2,31 +2,37 @@
 -- job's glasses and panes have at most four digits, so the text of a placing fits.
 --     reported               a text of the file, written to the front of the buffer
 --     printed-refusal        the text of a refusal
---     printable, printed     what the text of a placing asks of answers, counts and group, and what it is
-use Prim.Native.Nat.{ℕ, zero, suc, _≤_, _<_, min}
+--     listed-fits            the group is within its list
+--     printable, printed     what the text of a placing asks of ids, answers, counts and group, and what it is
+use Prim.Native.Nat.{ℕ, _≤_, _<_, min}
 use mathlib.Core.Path.{_≡_, refl, ap, sym, subst, _∙_}
 use mathlib.Core.Logic.{_⊎_, inl, inr}
 use mathlib.Core.List.{List}
 use native.Mathlib.Nat.{min-le-right}
 use native.Mathlib.Omega.{arith}
-use lib.ListN.{length, getD, take, length-take}
-use lib.Seq.{getD-take}
+use lib.ListN.{length, getD, take, length-take, length-map, List·getD-map}
+use Rattle.basics.specs.Lent.{Lent}
 use Rattle.basics.proofs.Tests.{same-or-not}
-use Rattle.job_glass.specs.declared.Glass.{Glass}
-use Rattle.job_pane.specs.declared.Pane.{Pane}
+use Rattle.causes.specs.Cause.{numberOf}
+use Rattle.causes.specs.declared.Cause.{Cause}
+use Rattle.job_glass.specs.GlassLine.{blankGlass}
 use Rattle.job_pane.specs.PaneLine.{blankPane}
 use Rattle.job_file.specs.File.{Outcome, accepted, refused}
-use Rattle.job_file.specs.Rules.{AtFront}
-use Rattle.job_file.proofs.Accepted.{glass-values, pane-values}
-use Rattle.job_file.proofs.Fronts.{few-panes, pane-at}
-use Rattle.placing.specs.Passing.{paneAt}
-use Rattle.placing.specs.Placing.{stocksOf, PassingId}
-use Rattle.placing.specs.ShortGroup.{ShortGroup}
-use Rattle.placing.specs.Promise.{counts, Call, Glazed}
-use Rattle.placing.proofs.Ids.{nonzero-le}
-use Rattle.report.specs.Text.{paneLines, placingText, refusalText}
+use Rattle.job_file.specs.Job.{glassesOf, panesOf, glassIdsOf, paneIdsOf, stocksOf}
+use Rattle.job_file.specs.Rules.{ReadJob}
+use Rattle.job_file.specs.declared.job.Job.{Job}
+use Rattle.job_file.proofs.Laws.{glass-values, pane-values, pane-count, few-panes, ids-front}
+use Rattle.job_part.specs.Arrays.{padded}
+use Rattle.row_placing.specs.Schedule.{Schedule}
+use Rattle.row_placing.specs.Placing.{PassingId}
+use Rattle.row_placing.specs.ShortGroup.{ShortGroup}
+use Rattle.row_placing.specs.Promise.{Glazed}
+use Rattle.row_placing.specs.declared.PlaceCounts.{PlaceCounts}
+use Rattle.placing.specs.Passing.{scheduleOf}
+use Rattle.placing.proofs.Laws.{nonzero-le}
+use Rattle.report.specs.Text.{placingText, refusalText}
 use Rattle.report.specs.Promise.{TextOf, Reported}
-use Rattle.report.specs.Steps.{Wrote, FourDigits, PaneIds}
+use Rattle.report.specs.Steps.{Wrote, FourDigits, Answers}
 use Rattle.report.proofs.Wrote.{wrote-front}
 
 pub reported :
@@ -44,124 +50,101 @@ reported o text before after end is w =
       later-kept = f .2;
     }
 
-pub printed-refusal : (o : Outcome) (number offset : ℕ) → o ≡ refused number offset → TextOf o (refusalText number offset)
-printed-refusal o number offset is = rw is refl
+pub printed-refusal :
+    (o : Outcome) (cause : Cause) (offset : ℕ) → o ≡ refused cause offset → TextOf o (refusalText (numberOf cause) offset)
+printed-refusal o cause offset is = rw is refl
 
--- The lines of panes go by their ids and answers alone.
-lines-agree :
-    (panes others : List Pane) (answers same : List ℕ) (n : ℕ) →
-    ((k : ℕ) → k < n → paneAt panes k ≡ paneAt others k) → ((k : ℕ) → k < n → getD answers k 0 ≡ getD same k 0) →
-    paneLines panes answers n ≡ paneLines others same n
-unfolding paneLines
-lines-agree panes others answers same zero p a = refl
-lines-agree panes others answers same (suc n) p a =
-    rw (
-      lines-agree panes others answers same n (λ k l. p k (omega arith)) (λ k l. a k (omega arith)),
-      p n (omega arith),
-      a n (omega arith),
-    )
+module _ (job : Job) (read : ReadJob job) where
+  abbrev schedule : Schedule
+  schedule = scheduleOf (glassesOf job) (stocksOf (glassesOf job)) (panesOf job)
 
-module _
-    (glassArray : List Glass) (glassCount : ℕ) (paneArray : List Pane) (paneCount : ℕ)
-    (front : AtFront glassArray glassCount paneArray paneCount) (c : Call)
-    (g : Glazed (take glassCount glassArray) (stocksOf (take glassCount glassArray)) (take paneCount paneArray) c)
-  where
-    -- The job, the answers to its panes and the group.
-    abbrev glasses : List Glass
-    glasses = take glassCount glassArray
+  -- The ids of a job have at most four digits.
+  glass-short : (g : ℕ) → g < length (schedule .glasses) → getD (schedule .glasses) g 0 ≤ 9999
+  glass-short g l =
+      rw (List·getD-map (λ x. x .id) (glassesOf job) g blankGlass) (glass-values (read .rules) g (rw length-map at l) .id-high)
 
-    abbrev panes : List Pane
-    panes = take paneCount paneArray
+  pane-short : FourDigits (schedule .panes)
+  pane-short p l =
+      rw (List·getD-map (λ x. x .id) (panesOf job) p blankPane) (pane-values (read .rules) p (rw length-map at l) .id-high)
 
-    abbrev answers : List ℕ
-    answers = take paneCount (c .answers-after)
+  as-many : length (schedule .panes) ≡ job .«pane_count»
+  as-many = length-map (panesOf job) (λ x. x .id) ∙ sym (pane-count job read)
 
-    -- The answers are the ids of the placing.
-    answers-long : length (g .ids) ≡ paneCount
-    answers-long = g .glazing .placing .one-each ∙ front .pane-count
+  module _ (r : PlaceCounts) (answers group : Lent) (g : Glazed schedule r answers group) where
+    -- The answers are the ids of the placing, and the group its group.
+    answers-long : length (g .ids) ≡ job .«pane_count»
+    answers-long = g .glazing .placing .one-each ∙ as-many
 
-    answers-are : answers ≡ g .ids
-    answers-are = subst (λ (n : ℕ). take n (c .answers-after) ≡ g .ids) answers-long (g .answers-written .front)
+    answers-are : take (job .«pane_count») (answers .after) ≡ g .ids
+    answers-are = subst (λ (n : ℕ). take n (answers .after) ≡ g .ids) answers-long (g .answers-written .front)
 
-    -- An answer is 0 or the id of a glass.
-    given-short : (pane : Pane) (id : ℕ) → (id ≡ 0) ⊎ PassingId glasses pane id → id ≤ 9999
-    given-short pane id (inl e) = omega (arith, e)
-    given-short pane id (inr p) = omega (arith, p .is-id, glass-values (front .rules) (p .place) (p .of-file) .id-high)
+    listed-are : take (r .group) (group .after) ≡ g .group-ids
+    listed-are = rw (g .group-is) (g .group-written .front)
 
-    answer-short : (k : ℕ) → k < paneCount → getD (g .ids) k 0 ≤ 9999
-    answer-short k l = given-short (paneAt panes k) _ (g .glazing .placing .passing k (omega (arith, front .pane-count)))
-
-    -- The group is within its list, and its ids are those of panes; where all are placed it is empty.
-    group-within : length (g .group-ids) ≤ length (c .group-after)
-    group-within =
-        let n = length (g .group-ids) in
+    pub listed-fits : r .group ≤ length (group .after)
+    listed-fits =
         omega (
           arith,
-          min-le-right n (length (c .group-after)),
-          length-take n (c .group-after),
-          ap length (g .group-written .front),
+          g .group-is,
+          min-le-right (r .group) (length (group .after)),
+          length-take (r .group) (group .after),
+          ap length listed-are,
         )
 
-    of-panes : ShortGroup glasses (stocksOf glasses) panes (g .group-ids) → FourDigits (g .group-ids)
-    of-panes s k l =
-        let p = s .of-file k l in
-        omega (arith, p .is-id, pane-values (front .rules) (p .place) (p .of-file) .id-high)
+    -- An answer is 0 or the id of a glass; the group has ids of panes, or none where all are placed.
+    answer-short : FourDigits (g .ids)
+    answer-short k l = go (g .glazing .placing .passing k (omega (arith, g .glazing .placing .one-each)))
+      where
+        go : (getD (g .ids) k 0 ≡ 0) ⊎ PassingId schedule k (getD (g .ids) k 0) → getD (g .ids) k 0 ≤ 9999
+        go (inl e) = omega (arith, e)
+        go (inr p) = omega (arith, p .is-id, glass-short (p .place) (p .within))
 
     group-short : FourDigits (g .group-ids)
-    group-short = go (same-or-not (g .placed) (length panes))
+    group-short = go (same-or-not (r .placed) (length (schedule .panes)))
       where
-        go : (g .placed ≡ length panes) ⊎ (g .placed ≡ length panes → ⊥) → FourDigits (g .group-ids)
+        of-panes : ShortGroup schedule (g .group-ids) → FourDigits (g .group-ids)
+        of-panes s k l = let p = s .of-panes k l in omega (arith, p .is-id, pane-short (p .place) (p .within))
+
+        go :
+            (r .placed ≡ length (schedule .panes)) ⊎ (r .placed ≡ length (schedule .panes) → ⊥) → FourDigits (g .group-ids)
         go (inl all) = λ k l. absurd (omega (arith, ap length (g .glazing .if-equal all)))
         go (inr less) = of-panes (g .glazing .if-less less)
 
-    module _ (wanted placed listed : ℕ) (is : c .result ≡ counts wanted placed listed) where
-      same-placed : placed ≡ g .placed
-      same-placed = let both = sym is ∙ g .result in cc
-
-      same-count : listed ≡ length (g .group-ids)
-      same-count = let both = sym is ∙ g .result in cc
-
-      pub listed-fits : listed ≤ length (c .group-after)
-      listed-fits = rw same-count group-within
-
-      listed-are : take listed (c .group-after) ≡ g .group-ids
-      listed-are = rw same-count (g .group-written .front)
+    module _ (ids : List ℕ) (are-ids : ids ≡ padded 256 0 (paneIdsOf (panesOf job))) where
+      ids-are : take (job .«pane_count») ids ≡ schedule .panes
+      ids-are = ids-front (λ x. x .id) 256 (job .«pane_count») (panesOf job) ids are-ids (pane-count job read)
 
       pub printable :
-          PaneIds paneArray answers × FourDigits (take listed (c .group-after)) × (placed ≤ 256)
-      printable = (
-        record {
-          few = omega (arith, ap length answers-are, answers-long, few-panes front);
-          answers-short = λ k l. rw answers-are (answer-short k (omega (arith, ap length answers-are, answers-long)));
-          ids-short = λ k l. pane-at front k (omega (arith, ap length answers-are, answers-long)) .id-high;
-        },
-        rw listed-are group-short,
-        omega (
-          arith,
-          same-placed,
-          g .glazing .placed-is,
-          nonzero-le (g .ids) (length panes) (g .glazing .placing .one-each),
-          front .pane-count,
-          few-panes front,
-        ),
-      )
-
-      same-lines :
-          paneLines paneArray answers paneCount ≡ paneLines panes (g .ids) paneCount
-      same-lines =
-          lines-agree paneArray panes answers (g .ids) paneCount
-          (λ k l. sym (getD-take paneCount paneArray k blankPane l)) (λ k l. rw answers-are)
+          Answers (take (job .«pane_count») ids) (take (job .«pane_count») (answers .after))
+          × FourDigits (take (r .group) (group .after)) × (r .placed ≤ 256)
+      printable =
+          rw (ids-are, answers-are, listed-are) (
+            record {
+              one-each = g .glazing .placing .one-each;
+              few = omega (arith, answers-long, few-panes job read);
+              answers-short = answer-short;
+              ids-short = pane-short;
+            },
+            group-short,
+            omega (
+              arith,
+              g .glazing .placed-is,
+              nonzero-le (g .ids) (job .«pane_count») answers-long,
+              few-panes job read,
+            ),
+          )
 
       pub printed :
-          (o : Outcome) → o ≡ accepted glasses panes →
-          TextOf o (placingText paneArray answers (length answers) placed (take listed (c .group-after)))
-      unfolding placingText
-      printed o accepted-is =
-          rw accepted-is
+          (o : Outcome) → o ≡ accepted (glassesOf job) (panesOf job) →
+          TextOf o
+          (placingText (take (job .«pane_count») ids) (take (job .«pane_count») (answers .after))
+          (length (take (job .«pane_count») (answers .after))) (r .placed) (take (r .group) (group .after)))
+      printed o is =
+          rw is
           (record {
             ids = g .ids;
             group = g .group-ids;
-            placed = g .placed;
+            placed = r .placed;
             glazing = g .glazing;
-            is-text = rw (ap length answers-are ∙ answers-long, front .pane-count, same-placed, listed-are, same-lines);
+            is-text = rw (ids-are, answers-are, listed-are, g .glazing .placing .one-each, length-map);
           })

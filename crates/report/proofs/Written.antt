@@ -19,10 +19,8 @@ use borrow.Author.Tests.{lt-ltb}
 use Rattle.basics.specs.Choice.{if_then_else_}
 use Rattle.job_line.specs.Bytes.{space, newline}
 use Rattle.job_line.specs.WrittenNumber.{writtenDigits, digitCount, writtenNumber, writtenNumbers}
-use Rattle.job_pane.specs.declared.Pane.{Pane}
-use Rattle.placing.specs.Passing.{paneAt}
 use Rattle.report.specs.Text.{pairLine, paneLines}
-use Rattle.report.specs.Steps.{FourDigits, PaneIds}
+use Rattle.report.specs.Steps.{FourDigits, Answers}
 
 pub digits-length : (count n : ℕ) → length (writtenDigits count n) ≡ count
 unfolding writtenDigits
@@ -114,16 +112,14 @@ pair-long a b m n =
     )
 
 pub panes-long :
-    (panes : List Pane) (answers : List ℕ) → PaneIds panes answers →
-    (n : ℕ) → n ≤ length answers → length (paneLines panes answers n) ≤ 10 * n
+    (ids answers : List ℕ) → Answers ids answers →
+    (n : ℕ) → n ≤ length answers → length (paneLines ids answers n) ≤ 10 * n
 unfolding paneLines
-panes-long panes answers ids zero l = omega arith
-panes-long panes answers ids (suc n) l =
-    let line = pair-long (paneAt panes n .id) (getD answers n 0) (ids .ids-short n (omega arith)) (ids .answers-short n
-    (omega arith)) in
+panes-long ids answers a zero l = omega arith
+panes-long ids answers a (suc n) l =
     omega (
       arith,
-      length-append (paneLines panes answers n) (pairLine (paneAt panes n .id) (getD answers n 0)),
-      panes-long panes answers ids n (omega arith),
-      line,
+      length-append (paneLines ids answers n) (pairLine (getD ids n 0) (getD answers n 0)),
+      panes-long ids answers a n (omega arith),
+      pair-long (getD ids n 0) (getD answers n 0) (a .ids-short n (omega (arith, a .one-each))) (a .answers-short n (omega arith)),
     )

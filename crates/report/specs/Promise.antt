@@ -3,11 +3,13 @@ use Prim.Native.Nat.{ℕ, _≤_}
 use mathlib.Core.Path.{_≡_}
 use mathlib.Core.List.{List}
 use lib.ListN.{length, take, drop}
+use Rattle.causes.specs.Cause.{numberOf}
 use Rattle.job_glass.specs.declared.Glass.{Glass}
 use Rattle.job_pane.specs.declared.Pane.{Pane}
 use Rattle.job_file.specs.File.{Outcome, accepted, refused}
-use Rattle.placing.specs.Placing.{stocksOf}
-use Rattle.placing.specs.Glazing.{Glazing}
+use Rattle.job_file.specs.Job.{paneIdsOf, stocksOf}
+use Rattle.row_placing.specs.Glazing.{Glazing}
+use Rattle.placing.specs.Passing.{scheduleOf}
 use Rattle.report.specs.Text.{placingText, refusalText}
 
 -- The text of answers, counts and a group that are a placing of a file from its stocks, as `place` promises it.
@@ -15,12 +17,12 @@ pub record TextOfPlacing (glasses : List Glass) (panes : List Pane) (text : List
   pub ids : List ℕ
   pub group : List ℕ
   pub placed : ℕ
-  pub glazing : Glazing glasses (stocksOf glasses) panes ids group placed
-  pub is-text : text ≡ placingText panes ids (length panes) placed group
+  pub glazing : Glazing (scheduleOf glasses (stocksOf glasses) panes) ids group placed
+  pub is-text : text ≡ placingText (paneIdsOf panes) ids (length panes) placed group
 
 -- A text is one that `canopy` may print of a file.
 abbrev pub TextOf : Outcome → List ℕ → Type 0
-TextOf (refused number offset) text = text ≡ refusalText number offset
+TextOf (refused cause offset) text = text ≡ refusalText (numberOf cause) offset
 TextOf (accepted glasses panes) text = TextOfPlacing glasses panes text
 
 -- What the call leaves in a lent buffer: a text of the file at its front, as many bytes as the call answers. All of it is there,

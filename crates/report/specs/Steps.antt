@@ -3,8 +3,6 @@ use Prim.Native.Nat.{ℕ, _+_, _≤_, _<_}
 use mathlib.Core.Path.{_≡_}
 use mathlib.Core.List.{List, _++_}
 use lib.ListN.{length, getD, take, drop}
-use Rattle.job_pane.specs.declared.Pane.{Pane}
-use Rattle.placing.specs.Passing.{paneAt}
 
 -- Bytes were written from a place on, up to another, and nothing else changed.
 pub record Wrote (bytes : List ℕ) (at : ℕ) (before after : List ℕ) (end : ℕ) : Type 0 where
@@ -15,8 +13,9 @@ pub record Wrote (bytes : List ℕ) (at : ℕ) (before after : List ℕ) (end : 
 abbrev pub FourDigits : List ℕ → Type 0
 FourDigits ns = (k : ℕ) → k < length ns → getD ns k 0 ≤ 9999
 
--- Answers for the first panes of an array, one for each; they and the panes' ids have at most four digits.
-pub record PaneIds (panes : List Pane) (answers : List ℕ) : Type 0 where
+-- The ids of panes and an answer for each, at most 256; all have at most four digits.
+pub record Answers (ids answers : List ℕ) : Type 0 where
+  pub one-each : length answers ≡ length ids
   pub few : length answers ≤ 256
   pub answers-short : FourDigits answers
-  pub ids-short : (k : ℕ) → k < length answers → paneAt panes k .id ≤ 9999
+  pub ids-short : FourDigits ids

@@ -6,8 +6,6 @@ use lib.ListN.{getD}
 use Rattle.basics.specs.Choice.{if_then_else_}
 use Rattle.job_line.specs.Bytes.{newline}
 use Rattle.job_line.specs.WrittenNumber.{writtenNumber, writtenNumbers}
-use Rattle.job_pane.specs.declared.Pane.{Pane}
-use Rattle.placing.specs.Passing.{paneAt}
 
 -- "Fields are separated by one space, printed numbers have no leading zero, and every line ends in a newline." The first field,
 -- and the numbers behind it.
@@ -18,10 +16,10 @@ lineOf first numbers = first ++ (writtenNumbers numbers ++ (newline ∷ []))
 abbrev pub pairLine : ℕ → ℕ → List ℕ
 pairLine a b = lineOf (writtenNumber a) (b ∷ [])
 
--- "one line per pane in file order (pane id, glass id or 0)": the lines of the first n panes.
-unfoldable pub paneLines : List Pane → List ℕ → ℕ → List ℕ
-paneLines panes answers zero = []
-paneLines panes answers (suc n) = paneLines panes answers n ++ pairLine (paneAt panes n .id) (getD answers n 0)
+-- "one line per pane in file order (pane id, glass id or 0)": the lines of the first n panes, by their ids.
+unfoldable pub paneLines : List ℕ → List ℕ → ℕ → List ℕ
+paneLines ids answers zero = []
+paneLines ids answers (suc n) = paneLines ids answers n ++ pairLine (getD ids n 0) (getD answers n 0)
 
 -- The word `short`.
 abbrev pub short : List ℕ
@@ -32,9 +30,9 @@ abbrev pub shortLine : ℕ → ℕ → List ℕ → List ℕ
 shortLine wanted placed group = if eqb placed wanted then [] else lineOf short group
 
 -- The lines for the panes, "then one line (placed, wanted)", and the last line.
-unfoldable pub placingText : List Pane → List ℕ → ℕ → ℕ → List ℕ → List ℕ
-placingText panes answers wanted placed group =
-    paneLines panes answers wanted ++ (pairLine placed wanted ++ shortLine wanted placed group)
+unfoldable pub placingText : List ℕ → List ℕ → ℕ → ℕ → List ℕ → List ℕ
+placingText ids answers wanted placed group =
+    paneLines ids answers wanted ++ (pairLine placed wanted ++ shortLine wanted placed group)
 
 -- The word `refused`.
 abbrev pub refusedWord : List ℕ

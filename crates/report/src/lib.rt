@@ -6,6 +6,7 @@ mod number;
 mod text;
 
 use job_file::Checked;
+use job_file::pane_ids_of;
 use job_file::read_job;
 use causes::number_of;
 use placing::place_panes;
@@ -23,23 +24,20 @@ pub fn report(file: &[u8], text: &mut [u8; 4096]) -> usize
     let checked = reading.checked;
     match checked {
         Checked::Refused { cause, offset } => write_refusal(number_of(cause), offset, text),
-        Checked::Accepted { glasses, panes } => {
-            let the_glasses = reading.glasses;
-            let the_panes = reading.panes;
+        Checked::Accepted {
+            glass_count: _,
+            pane_count: _,
+        } => {
+            let job = reading.job;
+            let ids = pane_ids_of(job);
+            let count = job.pane_count;
             let mut answers = [0u32; 256];
             let mut group = [0u32; 256];
-            let counts = place_panes(
-                the_glasses,
-                glasses,
-                the_panes,
-                panes,
-                &mut answers,
-                &mut group,
-            );
+            let counts = place_panes(job, &mut answers, &mut group);
             let listed = counts.group;
             write_placing(
-                the_panes,
-                &answers[..panes],
+                &ids[..count],
+                &answers[..count],
                 counts.placed,
                 &group[..listed],
                 text,

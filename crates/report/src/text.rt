@@ -3,11 +3,10 @@ use crate::line::write_fields;
 use crate::line::write_pair;
 use crate::line::write_word;
 use crate::number::write_field;
-use job_pane::Pane;
 ghost use Prim.Native.Nat.{_+_, _*_, _≤_};
 ghost use lib.ListN.{length};
 ghost use Rattle.report.specs.Text.{lineOf, short, paneLines, placingText, refusalText};
-ghost use Rattle.report.specs.Steps.{Wrote, FourDigits, PaneIds};
+ghost use Rattle.report.specs.Steps.{Wrote, FourDigits, Answers};
 
 // Writes the text of a refusal to the front of a buffer; how many bytes it has.
 pub fn write_refusal(number: u32, offset: usize, text: &mut [u8]) -> usize
@@ -21,21 +20,21 @@ pub fn write_refusal(number: u32, offset: usize, text: &mut [u8]) -> usize
     end + 1
 }
 
-// Writes the text of a placing to the front of a buffer; how many bytes it has. The answers are as many as the panes wanted.
+// Writes the text of a placing to the front of a buffer; how many bytes it has. There is an answer for the id of each pane.
 pub fn write_placing(
-    panes: [Pane; 256],
+    ids: &[u32],
     answers: &[u32],
     placed: usize,
     group: &[u32],
     text: &mut [u8],
 ) -> usize
-    requires { ⌜ PaneIds panes (now answers) × FourDigits (now group) × (placed ≤ 9999) ×
+    requires { ⌜ Answers (now ids) (now answers) × FourDigits (now group) × (placed ≤ 9999) ×
         (10 * length (now answers) + 10 + (5 + (5 * length (now group) + 1)) ≤ length (now text)) ⌝ }
-    ensures { λ r. ⌜ Wrote (placingText panes (now (answers .entry)) (length (now (answers .entry))) placed (now (group .entry)))
+    ensures { λ r. ⌜ Wrote (placingText (now (ids .entry)) (now (answers .entry)) (length (now (answers .entry))) placed (now (group .entry)))
         0 (now (text .entry)) (now (text .exit)) r ⌝ }
 {
     let wanted = answers.len();
-    let counts = write_panes(panes, answers, text);
+    let counts = write_panes(ids, answers, text);
     let end = write_pair(placed, wanted, text, counts);
     if placed == wanted {
         return end;
@@ -44,18 +43,18 @@ pub fn write_placing(
 }
 
 // Writes a line for each pane; how many bytes they have.
-fn write_panes(panes: [Pane; 256], answers: &[u32], text: &mut [u8]) -> usize
-    requires { ⌜ PaneIds panes (now answers) × (10 * length (now answers) ≤ length (now text)) ⌝ }
-    ensures { λ r. ⌜ Wrote (paneLines panes (now (answers .entry)) (length (now (answers .entry))))
+fn write_panes(ids: &[u32], answers: &[u32], text: &mut [u8]) -> usize
+    requires { ⌜ Answers (now ids) (now answers) × (10 * length (now answers) ≤ length (now text)) ⌝ }
+    ensures { λ r. ⌜ Wrote (paneLines (now (ids .entry)) (now (answers .entry)) (length (now (answers .entry))))
         0 (now (text .entry)) (now (text .exit)) r ⌝ }
 {
     let mut end = 0;
     let mut next = 0;
     while next < answers.len() {
-        let pane = panes[next];
+        let pane = ids[next];
         let glass = answers[next];
         next += 1;
-        end = write_pair(pane.id as usize, glass as usize, text, end);
+        end = write_pair(pane as usize, glass as usize, text, end);
     }
     end
 }

@@ -16,13 +16,13 @@ use Rattle.row_placing.specs.Placing.{nonzero}
 use Rattle.row_placing.specs.ShortGroup.{ShortGroup}
 use Rattle.row_placing.specs.Glazing.{Glazing, PassingNumber, Holding}
 use Rattle.row_placing.specs.Stated.{Stated}
-use Rattle.row_placing.specs.Lent.{Lent, Wrote, written}
+use Rattle.basics.specs.Lent.{Lent, Wrote, written}
 use Rattle.row_placing.specs.Promise.{RowsGlazed}
 use Rattle.row_placing.specs.Steps.{confinedTo, Answered, confinedIds, Grouped}
 use Rattle.row_placing.specs.declared.PlaceCounts.{PlaceCounts}
 use Rattle.row_placing.proofs.Entries.{entries-long, entries-same}
 use Rattle.row_placing.proofs.Ids.{nonzero-le}
-use Rattle.row_placing.proofs.Writes.{wrote}
+use Rattle.basics.proofs.Lent.{wrote}
 use Rattle.row_placing.proofs.Bridge.{each-held, is-placing, none-spare}
 use Rattle.row_placing.proofs.Others.{full-placed}
 use Rattle.row_placing.proofs.Groups.{group-length}

@@ -1,9 +1,7 @@
 -- The laws that crates above may cite.
---     nonzero-le                  a list has no more entries that are not 0 than entries
---     entries-long, entry-at      the entries of a list at some places: their number, and each of them
---     some-stated                 some panes of a schedule are stated too, with other sheets
---     written-map, written-all    lists that are written entry by entry: one entry more, and all of them
+--     nonzero-le              a list has no more entries that are not 0 than entries
+--     entries-long, entry-at  the entries of a list at some places: their number, and each of them
+--     some-stated             some panes of a schedule are stated too, with other sheets
 pub use Rattle.row_placing.proofs.Ids.{nonzero-le}
 pub use Rattle.row_placing.proofs.Entries.{entries-long, entry-at}
 pub use Rattle.row_placing.proofs.SomePanes.{some-stated}
-pub use Rattle.row_placing.proofs.Writes.{written-map, written-all}

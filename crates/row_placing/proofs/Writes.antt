@@ -1,63 +1,22 @@
--- Laws of lists whose first entries a call writes, one after the other.
---     written-next                    one entry more
---     written-all                     all entries
---     wrote                           the first entries and the later ones
---     map-long, written-map           entries that are worked out one by one
+-- The ids that the code writes, one after the other.
 --     answered-none, answered-next    the ids of the glasses held, of no pane and of one pane more
 --     answered-le                     no more panes are placed than are answered
 --     grouped-in, grouped-out         the ids of the group, with the next pane and without
 use Prim.Native.Nat.{ℕ, _+_, _≤_, _<_}
-use mathlib.Core.Path.{_≡_, refl, ap, subst, _∙_}
+use mathlib.Core.Path.{_≡_, refl}
 use mathlib.Core.Bool.{Bool, true, false}
-use mathlib.Core.List.{List, [], _∷_, _++_, map, map-append, append-nil}
+use mathlib.Core.List.{List, [], _∷_, _++_}
 use native.Mathlib.Numerals.{add-one}
 use native.Mathlib.Omega.{arith}
 use lib.Dec.{eqb}
-use lib.ListN.{length, getD, set, take, drop, length-map, length-append}
-use lib.Seq.{take-append-seam, drop-append-seam, take-suc, length-take-le, drop-length}
+use lib.ListN.{length, getD, set, take, length-append}
 use Rattle.basics.specs.Choice.{if_then_else_}
 use Rattle.row_placing.specs.Schedule.{entriesAt}
 use Rattle.row_placing.specs.Placing.{nonzero}
-use Rattle.row_placing.specs.Lent.{Lent, lent, Wrote, written}
+use Rattle.basics.specs.Lent.{lent, written}
+use Rattle.basics.proofs.Lent.{written-next, written-map, map-next, map-long}
 use Rattle.row_placing.specs.Steps.{groupTo, Answered}
 use Rattle.row_placing.proofs.Ids.{nonzero-le}
-
-pub written-next :
-    (first before : List ℕ) (x : ℕ) → length first < length before →
-    set (written first before) (length first) x ≡ written (first ++ (x ∷ [])) before
-written-next first [] x l = absurd (omega arith)
-written-next [] (b ∷ bs) x l = refl
-written-next (f ∷ fs) (b ∷ bs) x l = ap (λ (r : List ℕ). f ∷ r) (written-next fs bs x (omega arith))
-
-pub written-all : (first before : List ℕ) → length first ≡ length before → written first before ≡ first
-written-all first before e = rw (e, drop-length before, append-nil)
-
-pub wrote : (first : List ℕ) (l : Lent) → l .after ≡ written first (l .before) → Wrote first l
-wrote first l is = record {
-  front = rw is (take-append-seam first (drop (length first) (l .before)));
-  later-kept = rw is (drop-append-seam first (drop (length first) (l .before)));
-}
-
--- One entry more of a list that is worked out entry by entry.
-map-next :
-    {A : Type 0} (f : A → ℕ) (xs : List A) (blank : A) (i : ℕ) → i < length xs →
-    map f (take (i + 1) xs) ≡ map f (take i xs) ++ (f (getD xs i blank) ∷ [])
-map-next f xs blank i l = rw (add-one, take-suc xs i blank l, map-append f (take i xs) (getD xs i blank ∷ []))
-
-pub map-long : {A : Type 0} (f : A → ℕ) (xs : List A) (i : ℕ) → i ≤ length xs → length (map f (take i xs)) ≡ i
-map-long f xs i l = length-map (take i xs) f ∙ length-take-le i xs l
-
-pub written-map :
-    {A : Type 0} (f : A → ℕ) (xs : List A) (blank : A) (i : ℕ) (before after : List ℕ) →
-    i < length xs → length xs ≤ length before → after ≡ written (map f (take i xs)) before →
-    set after i (f (getD xs i blank)) ≡ written (map f (take (i + 1) xs)) before
-written-map f xs blank i before after l fits is =
-    let long = map-long f xs i (omega arith) in
-    let first = map f (take i xs) in
-    let x = f (getD xs i blank) in
-    rw (is, map-next f xs blank i l)
-    (subst (λ (k : ℕ). set (written first before) k x ≡ written (first ++ (x ∷ [])) before) long
-    (written-next first before x (omega (arith, long))))
 
 nonzero-last : (xs : List ℕ) (x : ℕ) → nonzero (xs ++ (x ∷ [])) ≡ nonzero xs + (if eqb x 0 then 0 else 1)
 unfolding nonzero
@@ -74,7 +33,7 @@ module _ (ids held before : List ℕ) (fits : length held ≤ length before) whe
       Answered ids (take i held) (lent before after) placed →
       Answered ids (take (i + 1) held) (lent before (set after i id)) (placed + (if eqb id 0 then 0 else 1))
   answered-next i after placed id l is a = record {
-    answers-are = rw is (written-map (λ g. getD ids g 0) held 0 i before after l fits (a .answers-are));
+    answers-are = rw is (written-map (λ g. getD ids g 0) held 0 i before after l (omega arith) (a .answers-are));
     placed-is =
         rw (map-next (λ g. getD ids g 0) held 0 i l, nonzero-last, ← is, a .placed-is);
   }

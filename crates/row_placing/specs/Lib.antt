@@ -5,8 +5,7 @@ pub mod Schedule
 pub mod Placing
 pub mod ShortGroup
 pub mod Glazing
--- Rows, sheets and ids that state a schedule; lent lists.
+-- Rows, sheets and ids that state a schedule.
 pub mod Stated
-pub mod Lent
 -- What the functions below it ask and leave.
 pub mod Steps

@@ -7,7 +7,7 @@ use Rattle.row_placing.specs.Schedule.{Schedule, entriesAt}
 use Rattle.row_placing.specs.Placing.{nonzero}
 use Rattle.row_placing.specs.Glazing.{Glazing, Holding}
 use Rattle.row_placing.specs.Stated.{Stated}
-use Rattle.row_placing.specs.Lent.{Lent, Wrote}
+use Rattle.basics.specs.Lent.{Lent, Wrote}
 use Rattle.row_placing.specs.declared.PlaceCounts.{PlaceCounts}
 
 -- A call placed the panes of a schedule: there is a placing, the result has its counts, and the lists have its ids.

@@ -8,7 +8,7 @@ use Rattle.basics.specs.Choice.{if_then_else_}
 use Rattle.glass_set.specs.Member.{isWithin}
 use Rattle.row_placing.specs.Schedule.{entriesAt}
 use Rattle.row_placing.specs.Placing.{nonzero}
-use Rattle.row_placing.specs.Lent.{Lent, written}
+use Rattle.basics.specs.Lent.{Lent, written}
 
 -- What `write_answers` leaves: the ids of the glasses held in the first entries, and how many are not 0.
 pub record Answered (ids held : List ℕ) (answers : Lent) (placed : ℕ) : Type 0 where

@@ -11,7 +11,7 @@ use matching::match_panes;
 ghost use mathlib.Core.Path.{_≡_};
 ghost use Prim.Native.Nat.{_≤_};
 ghost use lib.ListN.{length};
-ghost use Rattle.row_placing.specs.Lent.{lent};
+ghost use Rattle.basics.specs.Lent.{lent};
 ghost use Rattle.row_placing.specs.Promise.{RowsGlazed};
 
 // How many panes there are, how many were given a glass and how many the short group has.

@@ -1,43 +1,42 @@
 -- `report` meets its contract: the text of the refusal, or that of the placing of the job that was read.
 use borrow.Author.Needs.{needs}
 use Prim.Native.Nat.{ℕ, _≤_}
-use mathlib.Core.Path.{_≡_, refl, sym}
+use mathlib.Core.Path.{_≡_, sym}
 use mathlib.Core.List.{List}
 use native.Mathlib.Omega.{arith}
 use lib.ListN.{length, replicate}
 use lib.Seq.{length-take-le}
 use denote.Ref.{now}
-use Rattle.causes.specs.Cause.{numberOf}
+use Rattle.basics.specs.Lent.{Lent, lent}
+use Rattle.causes.proofs.Numbers.{numbered}
 use Rattle.job_file.specs.File.{refused, outcomeOf}
-use Rattle.job_file.proofs.Jobs.{Job, job-read, refusal-read}
-use Rattle.job_file.proofs.Refused.{refused-within}
-use Rattle.job_file.proofs.Fronts.{few-panes}
-use Rattle.placing.specs.Promise.{Call, call, countsSay}
+use Rattle.job_file.specs.declared.job.Job.{Job}
+use Rattle.job_file.proofs.Laws.{JobOf, job-read, refusal-read, refused-within, few-panes}
 use Rattle.report.specs.Text.{refusalText}
 use Rattle.report.proofs.Printed.{reported, printed-refusal, listed-fits, printable, printed}
 use Rattle.report.proofs.report.Statement.{statement}
 use Rattle.report.proofs.report.Tie as tie
 
--- The job that was read, by what the check of it said.
-abbrev start : tie.After-checked2 → tie.Start
-start k = k .before .before .before .before
+-- The job that was read.
+abbrev read : tie.After-job → tie.After-read-job
+read k = k .before .before .before
 
-abbrev glasses : tie.After-checked2 → ℕ
-glasses k = k .checked2 .given .0 .0
+abbrev job : tie.After-job → Job
+job k = read k .read-job .result .job
 
-abbrev panes : tie.After-checked2 → ℕ
-panes k = k .checked2 .given .0 .1 .0
+is-job : (k : tie.After-job) → JobOf (now (read k .before .before .args .file)) (job k)
+is-job k =
+    let r = read k in
+    job-read (now (r .before .before .args .file)) (r .read-job .result) _ _ (r .read-job .ensures) (k .before .enum-told .given .1)
 
-job : (k : tie.After-checked2) → Job (now (start k .args .file)) (k .before .before .read-job .result) (glasses k) (panes k)
-job k =
-    let r = k .before .before .read-job in
-    job-read (now (start k .args .file)) (r .result) (glasses k) (panes k) (r .ensures) (k .checked2 .given .1)
+most : (k : tie.After-job) → job k .«pane_count» ≤ 256
+most k = few-panes (job k) (is-job k .read)
 
 -- The refusal that was read, of a number and an offset that are written whole.
 is-refused :
     (k : tie.After-checked) →
     let r = k .before .before in
-    outcomeOf (now (r .before .before .args .file)) ≡ refused (numberOf (k .checked .given .0 .0)) (k .checked .given .0 .1 .0)
+    outcomeOf (now (r .before .before .args .file)) ≡ refused (k .checked .given .0 .0) (k .checked .given .0 .1 .0)
 is-refused k =
     let r = k .before .before in
     let v = k .checked .given in
@@ -48,8 +47,8 @@ refusal-requires : tie.Need-write-refusal-requires
 refusal-requires c κs =
     let n = c .before in
     let k = n .before .before in
-    let small = refused-within _ _ _ (is-refused k) in
-    (omega (arith, small .0, n .number-of .ensures), omega (arith, small .1), omega arith)
+    let small = numbered (k .checked .given .0 .0) .two-digits in
+    (omega (arith, small, n .number-of .ensures), omega (arith, refused-within _ _ _ (is-refused k)), omega arith)
 
 refusal : tie.Need-returns
 refusal c =
@@ -66,52 +65,60 @@ refusal c =
 abbrev zeros : List ℕ
 zeros = replicate 256 0
 
-abbrev read : tie.After-place-panes → tie.After-checked2
-read p = p .before .before .before .before .before .before
+abbrev ids : tie.After-place-panes → tie.After-pane-ids-of
+ids p = p .before .before .before
 
-abbrev answers : tie.After-place-panes → List ℕ
-answers p = p .place-panes .last .1 .1 .1 .1 .0
+abbrev answers : tie.After-place-panes → Lent
+answers p = lent zeros (p .place-panes .last .1 .0)
 
-abbrev group : tie.After-place-panes → List ℕ
-group p = p .place-panes .last .1 .1 .1 .1 .1 .0
+abbrev group : tie.After-place-panes → Lent
+group p = lent zeros (p .place-panes .last .1 .1 .0)
 
-abbrev given : tie.After-place-panes → Call
-given p = call (countsSay (p .place-panes .result)) zeros (answers p) zeros (group p)
+ids-long : (i : tie.After-pane-ids-of) → length (i .pane-ids-of .result) ≡ 256
+ids-long i = search needs
 
--- The group is within its list, and the answers are.
-group-fits : (p : tie.After-place-panes) → p .place-panes .result .group ≤ length (group p)
+ids-fit : (i : tie.After-pane-ids-of) → job (i .before) .«pane_count» ≤ length (i .pane-ids-of .result)
+ids-fit i = omega (arith, ids-long i, most (i .before))
+
+answers-fit : (p : tie.After-place-panes) → job (ids p .before) .«pane_count» ≤ length (answers p .after)
+answers-fit p = omega (arith, most (ids p .before), p .place-panes .kept .1 .0)
+
+-- The group is within its list.
+group-fits : (p : tie.After-place-panes) → p .place-panes .result .group ≤ length (group p .after)
 group-fits p =
-    let k = read p in
-    listed-fits _ _ _ _ (job k .lists) (given p) (p .place-panes .ensures) _ _ _ refl
-
-answers-fit : (p : tie.After-place-panes) → panes (read p) ≤ length (answers p)
-answers-fit p = omega (arith, few-panes (job (read p) .lists), p .place-panes .kept .1 .1 .1 .1 .0)
-
-placed : tie.Need-returns-2
-placed c =
-    let p = c .before .before .before .before .before .before in
-    let k = read p in
-    let a = start k .args in
-    reported (outcomeOf (now (a .file))) _ (now (a .text)) (c .write-placing .last .1 .1 .1 .1 .0) (c .write-placing .result)
-    (printed _ _ _ _ (job k .lists) (given p) (p .place-panes .ensures) _ _ _ refl (outcomeOf (now (a .file))) (job k .outcome))
-    (c .write-placing .ensures)
+    let k = ids p .before in
+    listed-fits (job k) (is-job k .read) _ (answers p) (group p) (p .place-panes .ensures)
 
 placing-requires : tie.Need-write-placing-requires
 placing-requires c κs =
-    let p = c .before .before .before .before .before in
-    let k = read p in
-    let able = printable _ _ _ _ (job k .lists) (given p) (p .place-panes .ensures) _ _ _ refl in (
+    let p = c .before .before .before .before .before .before in
+    let i = ids p in
+    let k = i .before in
+    let able =
+    printable (job k) (is-job k .read) _ (answers p) (group p) (p .place-panes .ensures) (i .pane-ids-of .result)
+    (i .pane-ids-of .ensures) in (
       able .0,
       able .1,
       omega (arith, able .2),
       omega (
         arith,
         able .0 .few,
-        length-take-le _ (group p) (group-fits p),
+        length-take-le _ (group p .after) (group-fits p),
         group-fits p,
-        p .place-panes .kept .1 .1 .1 .1 .1 .0,
+        p .place-panes .kept .1 .1 .0,
       ),
     )
+
+placed : tie.Need-returns-2
+placed c =
+    let p = c .before .before .before .before .before .before .before in
+    let i = ids p in
+    let k = i .before in
+    let a = read k .before .before .args in
+    reported (outcomeOf (now (a .file))) _ (now (a .text)) (c .write-placing .last .1 .1 .1 .1 .0) (c .write-placing .result)
+    (printed (job k) (is-job k .read) _ (answers p) (group p) (p .place-panes .ensures) (i .pane-ids-of .result)
+    (i .pane-ids-of .ensures) (outcomeOf (now (a .file))) (is-job k .outcome))
+    (c .write-placing .ensures)
 
 pub report-spec : {M : Type 1} → statement M
 report-spec =
@@ -122,18 +129,16 @@ report-spec =
     (λ c κs. search needs)
     refusal-requires
     (λ c. search needs)
+    (λ c κs. is-job c .read)
     (λ c. search needs)
     (λ c. search needs)
-    (λ c κs. let k = c .before .before .before .before .before in (
-      job k .lists,
-      few-panes (job k .lists),
-      few-panes
-          (job k .lists),
-    ))
-    (λ c. answers-fit (c .before .before))
-    (λ c. let p = c .before .before .before in sym (length-take-le (panes (read p)) (answers p) (answers-fit p)))
-    (λ c. group-fits (c .before .before .before))
-    (λ c. let p = c .before .before .before .before in sym (length-take-le _ (group p) (group-fits p)))
+    (λ c κs. let k = c .before .before .before in (is-job k .read, most k, most k))
+    (λ c. ids-fit (ids (c .before .before)))
+    (λ c. let i = ids (c .before .before .before) in sym (length-take-le _ (i .pane-ids-of .result) (ids-fit i)))
+    (λ c. answers-fit (c .before .before .before))
+    (λ c. let p = c .before .before .before .before in sym (length-take-le _ (answers p .after) (answers-fit p)))
+    (λ c. group-fits (c .before .before .before .before))
+    (λ c. let p = c .before .before .before .before .before in sym (length-take-le _ (group p .after) (group-fits p)))
     placing-requires
     refusal
     placed)

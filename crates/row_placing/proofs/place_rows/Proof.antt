@@ -5,7 +5,7 @@ use mathlib.Core.Path.{_≡_, refl, _∙_}
 use mathlib.Core.List.{List}
 use lib.ListN.{length}
 use denote.Ref.{now}
-use Rattle.row_placing.specs.Lent.{lent}
+use Rattle.basics.specs.Lent.{lent}
 use Rattle.row_placing.proofs.Glazing.{rows-full, rows-short}
 use Rattle.row_placing.proofs.place_rows.Statement.{statement}
 use Rattle.row_placing.proofs.place_rows.Tie as tie

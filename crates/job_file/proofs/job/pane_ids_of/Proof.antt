@@ -4,8 +4,8 @@ use Prim.Native.Nat.{_-_, _≤_}
 use native.Mathlib.Omega.{arith}
 use mathlib.Core.Path.{_≡_, refl, _∙_}
 use lib.ListN.{length, take, replicate}
-use Rattle.basics.specs.Lists.{written}
-use Rattle.basics.proofs.Lists.{written-map, written-padded}
+use Rattle.basics.specs.Lent.{written}
+use Rattle.basics.proofs.Lent.{written-map, written-padded}
 use Rattle.job_pane.specs.PaneLine.{blankPane}
 use Rattle.job_file.specs.Job.{panesOf, paneIdsOf}
 use Rattle.job_file.proofs.Jobs.{few-panes, panes-long}

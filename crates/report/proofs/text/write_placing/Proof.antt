@@ -16,7 +16,7 @@ use Rattle.report.proofs.text.write_placing.Tie as tie
 
 -- Where each part was written: the lines of the panes, the counts.
 abbrev start : tie.After-write-panes → tie.Start
-start c = c .before .before .before .before .before
+start c = c .before .before .before .before .before .before
 
 abbrev lines : tie.After-write-pair → tie.After-write-panes
 lines c = c .before .before .before .before
@@ -28,7 +28,7 @@ panes-end c =
     omega (
       arith,
       c .write-panes .ensures .end-is,
-      panes-long (a .panes) (now (a .answers)) (s .pre .0) (length (now (a .answers))) (omega arith),
+      panes-long (now (a .ids)) (now (a .answers)) (s .pre .0) (length (now (a .answers))) (omega arith),
     )
 
 panes-kept : (c : tie.After-write-panes) → length (c .write-panes .last .1 .1 .0) ≡ length (now (start c .args .text))
@@ -53,13 +53,13 @@ both :
     (c : tie.After-write-pair) →
     let a = start (lines c) .args in
     let n = length (now (a .answers)) in
-    Wrote (paneLines (a .panes) (now (a .answers)) n ++ pairLine (a .placed) n) 0 (now (a .text)) (c .write-pair .last .1 .1 .0)
+    Wrote (paneLines (now (a .ids)) (now (a .answers)) n ++ pairLine (a .placed) n) 0 (now (a .text)) (c .write-pair .last .1 .1 .0)
     (c .write-pair .result)
 both c =
     let p = lines c in
     let a = start p .args in
     let n = length (now (a .answers)) in
-    wrote-then 0 (now (a .text)) (paneLines (a .panes) (now (a .answers)) n) (pairLine (a .placed) n)
+    wrote-then 0 (now (a .text)) (paneLines (now (a .ids)) (now (a .answers)) n) (pairLine (a .placed) n)
     (p .write-panes .last .1 .1 .0)
     (c .write-pair .last .1 .1 .0) (p .write-panes .result) (c .write-pair .result) (omega arith) (p .write-panes .ensures)
     (c .write-pair .ensures)
@@ -82,9 +82,9 @@ some-left c =
     let n = length (now (a .answers)) in
     rw (
       ne-eqb (a .placed) n (e .if1 .left),
-      ← append-assoc (paneLines (a .panes) (now (a .answers)) n) (pairLine (a .placed) n) (lineOf short (now (a .group))),
+      ← append-assoc (paneLines (now (a .ids)) (now (a .answers)) n) (pairLine (a .placed) n) (lineOf short (now (a .group))),
     )
-    (wrote-then 0 (now (a .text)) (paneLines (a .panes) (now (a .answers)) n ++ pairLine (a .placed) n) (lineOf short (now
+    (wrote-then 0 (now (a .text)) (paneLines (now (a .ids)) (now (a .answers)) n ++ pairLine (a .placed) n) (lineOf short (now
     (a .group)))
     (p .write-pair .last .1 .1 .0) (h .write-short .last .1 .0) (p .write-pair .result) (h .write-short .result) (omega arith)
     (both p) (h .write-short .ensures))

@@ -1,4 +1,4 @@
--- How a call writes a list that its caller lends: document 01, "The placing".
+-- How a call writes a list that its caller lends.
 use Prim.Native.Nat.{ℕ}
 use mathlib.Core.Path.{_≡_}
 use mathlib.Core.List.{List, _++_}
@@ -18,5 +18,5 @@ pub record Wrote (first : List ℕ) (l : Lent) : Type 0 where
   pub later-kept : drop (length first) (l .after) ≡ drop (length first) (l .before)
 
 -- The list that is left so.
-abbrev pub written : List ℕ → List ℕ → List ℕ
+abbrev pub written : {A : Type 0} → List A → List A → List A
 written first before = first ++ drop (length first) before

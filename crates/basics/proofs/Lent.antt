@@ -3,8 +3,7 @@
 --     written-all          all entries
 --     written-padded       over a list that repeats one value
 --     zeros-at             an entry of a list of zeros, or past its end
---     first-written        the first entries and the later ones
---     map-same             a list that is worked out in two ways
+--     wrote                the first entries and the later ones
 --     map-next, map-long   entries that are worked out one by one: one more, and their number
 --     written-map          such entries are written
 use Prim.Native.Nat.{ℕ, zero, suc, _+_, _-_, _≤_, _<_}
@@ -14,8 +13,8 @@ use native.Mathlib.Nat.{sub-zero, zero-sub, suc-sub-suc}
 use native.Mathlib.Numerals.{add-one}
 use native.Mathlib.Omega.{arith}
 use lib.ListN.{length, getD, set, take, drop, replicate, length-map}
-use lib.Seq.{take-at, drop-at, take-suc, length-take-le, drop-length}
-use Rattle.basics.specs.Lists.{written}
+use lib.Seq.{take-append-seam, drop-append-seam, take-suc, length-take-le, drop-length}
+use Rattle.basics.specs.Lent.{Lent, Wrote, written}
 
 module _ {A : Type 0} where
   pub written-next :
@@ -38,23 +37,16 @@ module _ {A : Type 0} where
       written first (replicate size x) ≡ first ++ replicate (size - length first) x
   written-padded first size x = rw (drop-replicate (length first) size x)
 
-  pub first-written :
-      (first before after : List A) (n : ℕ) → length first ≡ n → after ≡ written first before →
-      (take n after ≡ first) × (drop n after ≡ drop n before)
-  first-written first before after n long is = (
-    rw is (take-at first (drop (length first) before) n long),
-    rw is (drop-at first (drop (length first) before) n long) ∙ ap (λ (k : ℕ). drop k before) long,
-  )
+pub wrote : (first : List ℕ) (l : Lent) → l .after ≡ written first (l .before) → Wrote first l
+wrote first l is = record {
+  front = rw is (take-append-seam first (drop (length first) (l .before)));
+  later-kept = rw is (drop-append-seam first (drop (length first) (l .before)));
+}
 
 pub zeros-at : (n i : ℕ) → _≡_ {A = ℕ} (getD (replicate n 0) i 0) 0
 zeros-at zero i = refl
 zeros-at (suc n) zero = refl
 zeros-at (suc n) (suc i) = zeros-at n i
-
-pub map-same :
-    (f g : ℕ → ℕ) (xs : List ℕ) → ((p : ℕ) → p < length xs → f (getD xs p 0) ≡ g (getD xs p 0)) → map f xs ≡ map g xs
-map-same f g [] h = refl
-map-same f g (x ∷ xs) h = rw (h 0 (omega arith), map-same f g xs (λ p l. h (suc p) (omega arith)))
 
 module _ {A : Type 0} (f : A → ℕ) (xs : List A) where
   pub map-next :
