@@ -15,8 +15,14 @@ use Rattle.basics.proofs.Tests.{clash}
 use Rattle.job_grammar.specs.Examples.{glassesJ, panesJ}
 use Rattle.span_table.specs.Spans.{spans}
 use Rattle.clauses.specs.Verdict.{verdictOf}
-use Rattle.placing.specs.Passing.{passes, paneAt, glassAt}
-use Rattle.placing.specs.Placing.{times, nonzero, stocksOf, PassingId, Placing, FullPlacing}
+use Rattle.job_file.specs.Job.{glassAt, paneAt, stocksOf}
+use Rattle.row_placing.specs.Schedule.{Schedule}
+use Rattle.row_placing.specs.Placing.{times, nonzero, PassingId, Placing, FullPlacing}
+use Rattle.placing.specs.Passing.{passes, scheduleOf}
+
+-- What is to be placed.
+abbrev pub scheduleJ : Schedule
+scheduleJ = scheduleOf glassesJ (stocksOf glassesJ) panesJ
 
 -- The verdicts that matter, computed: glass 7 is at place 1, glass 9 at place 0.
 pane-1-glass-7 : passes (paneAt panesJ 0) (glassAt glassesJ 1) ≡ true
@@ -34,37 +40,37 @@ pane-2-glass-7 = refl
 abbrev answers : List ℕ
 answers = 7 ∷ 9 ∷ []
 
-placing : Placing glassesJ (stocksOf glassesJ) panesJ answers
+placing : Placing scheduleJ answers
 unfolding times
 placing = record { one-each = refl; passing = given; in-stock = stock }
   where
-    given : (i : ℕ) → i < 2 → (getD answers i 0 ≡ 0) ⊎ PassingId glassesJ (paneAt panesJ i) (getD answers i 0)
-    given zero l = inr (record { place = 1; of-file = omega arith; is-id = refl; passing = pane-1-glass-7 })
-    given (suc zero) l = inr (record { place = 0; of-file = omega arith; is-id = refl; passing = pane-2-glass-9 })
+    given : (i : ℕ) → i < 2 → (getD answers i 0 ≡ 0) ⊎ PassingId scheduleJ i (getD answers i 0)
+    given zero l = inr (record { place = 1; within = omega arith; is-id = refl; passing = pane-1-glass-7 })
+    given (suc zero) l = inr (record { place = 0; within = omega arith; is-id = refl; passing = pane-2-glass-9 })
     given (suc (suc i)) l = absurd (omega arith)
 
-    stock : (j : ℕ) → j < 2 → times (glassAt glassesJ j .id) answers ≤ getD (stocksOf glassesJ) j 0
+    stock : (j : ℕ) → j < 2 → times (getD (scheduleJ .glasses) j 0) answers ≤ getD (stocksOf glassesJ) j 0
     stock zero l = omega arith
     stock (suc zero) l = omega arith
     stock (suc (suc j)) l = absurd (omega arith)
 
-pub full-placing : FullPlacing glassesJ (stocksOf glassesJ) panesJ
+pub full-placing : FullPlacing scheduleJ
 unfolding nonzero
 full-placing = record { ids = answers; placing = placing; every-pane = refl }
 
 -- What stands in an entry that is not 0: pane 1 has glass 9 or 7, and pane 2 has glass 9.
-first : (x : ℕ) → PassingId glassesJ (paneAt panesJ 0) x → (x ≡ 9) ⊎ (x ≡ 7)
-first x p = go (p .place) (p .of-file) (p .is-id)
+first : (x : ℕ) → PassingId scheduleJ 0 x → (x ≡ 9) ⊎ (x ≡ 7)
+first x p = go (p .place) (p .within) (p .is-id)
   where
-    go : (j : ℕ) → j < 2 → glassAt glassesJ j .id ≡ x → (x ≡ 9) ⊎ (x ≡ 7)
+    go : (j : ℕ) → j < 2 → getD (scheduleJ .glasses) j 0 ≡ x → (x ≡ 9) ⊎ (x ≡ 7)
     go zero l e = inl (sym e)
     go (suc zero) l e = inr (sym e)
     go (suc (suc j)) l e = absurd (omega arith)
 
-second : (y : ℕ) → PassingId glassesJ (paneAt panesJ 1) y → y ≡ 9
-second y p = go (p .place) (p .of-file) (p .is-id) (p .passing)
+second : (y : ℕ) → PassingId scheduleJ 1 y → y ≡ 9
+second y p = go (p .place) (p .within) (p .is-id) (p .passing)
   where
-    go : (j : ℕ) → j < 2 → glassAt glassesJ j .id ≡ y → passes (paneAt panesJ 1) (glassAt glassesJ j) ≡ true → y ≡ 9
+    go : (j : ℕ) → j < 2 → getD (scheduleJ .glasses) j 0 ≡ y → passes (paneAt panesJ 1) (glassAt glassesJ j) ≡ true → y ≡ 9
     go zero l e pass = sym e
     go (suc zero) l e pass = let differ = sym pane-2-glass-7 ∙ pass in clash (cc)
     go (suc (suc j)) l e pass = absurd (omega arith)
@@ -74,7 +80,7 @@ at-most-one true = omega arith
 at-most-one false = omega arith
 
 pub no-other :
-    (ids : List ℕ) → Placing glassesJ (stocksOf glassesJ) panesJ ids → nonzero ids ≡ 2 → ids ≡ answers
+    (ids : List ℕ) → Placing scheduleJ ids → nonzero ids ≡ 2 → ids ≡ answers
 unfolding nonzero times
 no-other [] p all = absurd (omega arith)
 no-other (x ∷ []) p all = absurd (omega (arith, p .one-each))
@@ -93,7 +99,7 @@ no-other (x ∷ y ∷ []) p all = go (p .passing 0 (omega arith)) (p .passing 1 
     which (inr e) f = rw (e, f)
 
     go :
-        (x ≡ 0) ⊎ PassingId glassesJ (paneAt panesJ 0) x → (y ≡ 0) ⊎ PassingId glassesJ (paneAt panesJ 1) y →
+        (x ≡ 0) ⊎ PassingId scheduleJ 0 x → (y ≡ 0) ⊎ PassingId scheduleJ 1 y →
         x ∷ y ∷ [] ≡ answers
     go (inl none) second-entry = let all′ = rw none at all in absurd (omega (arith, all′, at-most-one (eqb y 0)))
     go (inr p1) (inl none) = let all′ = rw none at all in absurd (omega (arith, all′, at-most-one (eqb x 0)))

@@ -3,6 +3,9 @@
 use Prim.Native.Nat.{ℕ}
 use mathlib.Core.Path.{_≡_, _∙_}
 use mathlib.Core.List.{List, [], _++_}
+use Rattle.causes.specs.Cause.{numberOf}
+use Rattle.causes.specs.declared.Cause.{Cause}
+use Rattle.causes.specs.declared.Cause.the-variants.{FileLength, TooLong}
 use Rattle.job_line.specs.WrittenNumber.{writtenDigits, digitCount, writtenNumber, writtenNumbers}
 use Rattle.job_file.specs.File.{Outcome, accepted, refused, outcomeOf}
 use Rattle.job_grammar.specs.Examples.{bytesOf, pane3001, jobH, glassesJ, panesJ}
@@ -13,8 +16,9 @@ use Rattle.bench_examples.specs.Texts.{Texts}
 use Rattle.bench_examples.proofs.Examples.{glazing-h, glazing-j}
 
 -- A text of a file, by what the file says.
-refused-text : (o : Outcome) (number : ℕ) (text : List ℕ) → o ≡ refused number 0 → TextOf o text → text ≡ refusalText number 0
-refused-text o number text is t = rw is at t
+refused-text :
+    (o : Outcome) (cause : Cause) (text : List ℕ) → o ≡ refused cause 0 → TextOf o text → text ≡ refusalText (numberOf cause) 0
+refused-text o cause text is t = rw is at t
 
 placed-text : (o : Outcome) (text : List ℕ) → o ≡ accepted [] [] → TextOf o text → TextOfPlacing [] [] text
 placed-text o text is t = rw is at t
@@ -30,8 +34,8 @@ text-j text t = let is = glazing-j (t .ids) (t .group) (t .placed) (t .glazing) 
 pub texts : Texts
 unfolding refusalText writtenNumber writtenNumbers writtenDigits digitCount
 texts = record {
-  c = λ text t. refused-text (outcomeOf pane3001) 7 text too-long t;
+  c = λ text t. refused-text (outcomeOf pane3001) TooLong text too-long t;
   h = λ text t. text-h text (placed-text (outcomeOf jobH) text nothing-wanted t);
-  i = λ file text l t. refused-text (outcomeOf file) 1 text (thirteen-bytes file l) t;
+  i = λ file text l t. refused-text (outcomeOf file) FileLength text (thirteen-bytes file l) t;
   j = λ text t. text-j text (rw job-read at t);
 }

@@ -27,7 +27,7 @@ pub record ExampleI : Type 0 where
 -- the two panes; else the call is refused with number 9.
 pub record ExampleJ (c : Call) : Type 0 where
   pub counted : c .result ≡ counts 2 2 0
-  pub answers : take 2 (c .answers-after) ≡ 7 ∷ 9 ∷ []
+  pub answers : take 2 (c .answers .after) ≡ 7 ∷ 9 ∷ []
 
 pub record Examples : Type 0 where
   pub a : clauses.ExampleA
@@ -41,4 +41,4 @@ pub record Examples : Type 0 where
   pub g-four : clauses.ExampleG (clauses.pane 4 2000 200 100 87) (clauses.glass 1 6 1 1200) (clauses.glass 1 6 99999 1199)
   pub h : ExampleH
   pub i : ExampleI
-  pub j : (c : Call) → 2 ≤ length (c .answers) → 2 ≤ length (c .group) → Promised (outcomeOf jobJ) c → ExampleJ c
+  pub j : (c : Call) → 2 ≤ length (c .answers .before) → 2 ≤ length (c .group .before) → Promised (outcomeOf jobJ) c → ExampleJ c

@@ -4,7 +4,6 @@ use mathlib.Core.Path.{_≡_}
 use mathlib.Core.List.{List, _++_}
 use Prim.Native.Nat.{ℕ}
 use lib.ListN.{length}
-use Rattle.causes.specs.declared.Cause.the-variants.{FileLength, TooLong}
 use Rattle.job_file.specs.File.{outcomeOf}
 use Rattle.job_grammar.specs.Examples.{bytesOf, pane3001, jobH, jobJ}
 use Rattle.report.specs.Promise.{TextOf}

@@ -1,8 +1,8 @@
 // Results as structs of numbers: specs/Results.antt.
+use causes::number_of;
 use clauses::Answer;
 use clauses::Verdict;
 use job_file::Checked;
-use causes::number_of;
 use placing::Placed;
 ghost use mathlib.Core.Path.{_≡_};
 ghost use Rattle.job_file.specs.Answer.{says as checkSays};
@@ -41,11 +41,14 @@ pub fn check_result(checked: Checked) -> CheckResult
     ensures { λ r. ⌜ r ≡ checkResult (checkSays checked) ⌝ }
 {
     match checked {
-        Checked::Accepted { glasses, panes } => CheckResult {
+        Checked::Accepted {
+            glass_count,
+            pane_count,
+        } => CheckResult {
             number: 0,
             offset: 0,
-            glasses,
-            panes,
+            glasses: glass_count,
+            panes: pane_count,
         },
         Checked::Refused { cause, offset } => CheckResult {
             number: number_of(cause) as usize,
@@ -70,16 +73,6 @@ pub fn verdict_result(answer: Answer) -> VerdictResult
             offset,
             clause: 0,
         },
-        Answer::NoPane => VerdictResult {
-            number: 10,
-            offset: 0,
-            clause: 0,
-        },
-        Answer::NoGlass => VerdictResult {
-            number: 11,
-            offset: 0,
-            clause: 0,
-        },
     }
 }
 
@@ -97,27 +90,16 @@ pub fn place_result(placed: Placed) -> PlaceResult
     ensures { λ r. ⌜ r ≡ placeResult (placedSays placed) ⌝ }
 {
     match placed {
-        Placed::Counts {
-            wanted,
-            placed,
-            group,
-        } => PlaceResult {
+        Placed::Counts(counts) => PlaceResult {
             number: 0,
             offset: 0,
-            wanted,
-            placed,
-            group,
+            wanted: counts.wanted,
+            placed: counts.placed,
+            group: counts.group,
         },
         Placed::Refused { cause, offset } => PlaceResult {
             number: number_of(cause) as usize,
             offset,
-            wanted: 0,
-            placed: 0,
-            group: 0,
-        },
-        Placed::ListTooShort => PlaceResult {
-            number: 9,
-            offset: 0,
             wanted: 0,
             placed: 0,
             group: 0,

@@ -11,7 +11,5 @@ place-result-spec =
     (λ c. search needs)
     (λ c κs. search needs)
     (λ c. search needs)
-    (λ c. search needs)
     (λ c. rw (c .before .placed .given .1))
-    (λ c. rw (c .before .before .placed2 .given .1, c .number-of .ensures))
-    (λ c. rw (c .enum-told .given .1)))
+    (λ c. rw (c .before .before .placed2 .given .1, c .number-of .ensures)))

@@ -1,0 +1,2 @@
+-- The number of a result is 0 exactly where nothing is refused.
+pub mod Numbers
