@@ -7,12 +7,9 @@ use mathlib.Core.Bool.{Bool, true, false}
 use mathlib.Core.List.{List}
 use native.Mathlib.Omega.{arith}
 use lib.ListN.{length}
-use Rattle.ids.specs.Lookup.{placeOf}
-use Rattle.ids.specs.declared.IdPlace.{IdPlace}
-use Rattle.ids.specs.declared.IdPlace.the-variants.{At, Missing}
 use Rattle.causes.specs.Cause.{numberOf}
 use Rattle.causes.specs.declared.Cause.{Cause}
-use Rattle.causes.specs.declared.Cause.the-variants.{ListTooShort, NoPane, NoGlass}
+use Rattle.causes.specs.declared.Cause.the-variants.{ListTooShort}
 use Rattle.causes.proofs.Numbers.{numbered}
 use Rattle.job_glass.specs.declared.Glass.{Glass}
 use Rattle.job_pane.specs.declared.Pane.{Pane}
@@ -22,6 +19,8 @@ use Rattle.job_file.specs.Job.{glassAt, paneAt, glassIdsOf, paneIdsOf, stocksOf
 use Rattle.clauses.specs.Verdict.{verdictOf}
 use Rattle.clauses.specs.declared.judging.Verdict.{Verdict}
 use Rattle.clauses.specs.declared.judging.Verdict.the-variants.{Passes, Fails}
+use Rattle.clauses.specs.declared.question.PairPlace.{PairPlace}
+use Rattle.clauses.specs.declared.question.PairPlace.the-variants.{Both, Unknown}
 use Rattle.clauses.specs.Answer as question
 use Rattle.row_placing.specs.Schedule.{Schedule}
 use Rattle.placing.specs.Passing.{scheduleOf}
@@ -40,33 +39,19 @@ verdict-tells : (v : Verdict) → verdictResult (question.verdictSays v) .number
 verdict-tells Passes = (λ zero. tt, λ is. refl)
 verdict-tells (Fails clause) = (λ zero. tt, λ is. refl)
 
--- The answer to a question about a job, by the places of the two ids.
-answer : List Glass → List Pane → IdPlace → IdPlace → question.Says
-answer glasses panes p g =
-    elim p [
-      | Missing ↦ question.refuses (numberOf NoPane) 0
-      | At i ↦
-          elim g [
-            | Missing ↦ question.refuses (numberOf NoGlass) 0
-            | At j ↦ question.verdictSays (verdictOf (paneAt panes i) (glassAt glasses j))
-          ]
-    ]
-
-answer-tells :
-    (glasses : List Glass) (panes : List Pane) (p g : IdPlace) →
-    verdictResult (answer glasses panes p g) .number ≡ 0 ↔ Judges (answer glasses panes p g)
-unfolding answer
-answer-tells glasses panes Missing g = refuses-tells NoPane
-answer-tells glasses panes (At i) Missing = refuses-tells NoGlass
-answer-tells glasses panes (At i) (At j) = verdict-tells (verdictOf (paneAt panes i) (glassAt glasses j))
+pair-tells :
+    (glasses : List Glass) (panes : List Pane) (pair : PairPlace) →
+    verdictResult (question.pairAnswer glasses panes pair) .number ≡ 0 ↔ Judges (question.pairAnswer glasses panes pair)
+pair-tells glasses panes (Both p g) = verdict-tells (verdictOf (paneAt panes p) (glassAt glasses g))
+pair-tells glasses panes (Unknown cause) = refuses-tells cause
 
 question-tells :
     (o : Outcome) (pane glass : ℕ) →
     verdictResult (question.answerOf o pane glass) .number ≡ 0 ↔ Judges (question.answerOf o pane glass)
-unfolding answer question.answerOf question.jobAnswer
+unfolding question.answerOf
 question-tells (refused cause offset) pane glass = refuses-tells cause
 question-tells (accepted glasses panes) pane glass =
-    answer-tells glasses panes (placeOf pane (paneIdsOf panes)) (placeOf glass (glassIdsOf glasses))
+    pair-tells glasses panes (question.pairOf (glassIdsOf glasses) (paneIdsOf panes) pane glass)
 
 result-refused :
     (c : placing.Call) (cause : Cause) (offset : ℕ) → placing.Refusal cause offset c →

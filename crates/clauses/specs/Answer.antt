@@ -12,6 +12,8 @@ use Rattle.job_file.specs.Job.{glassAt, paneAt, glassIdsOf, paneIdsOf}
 use Rattle.clauses.specs.Verdict.{verdictOf}
 use Rattle.clauses.specs.declared.judging.Verdict.{Verdict}
 use Rattle.clauses.specs.declared.judging.Verdict.the-variants.{Passes, Fails}
+use Rattle.clauses.specs.declared.question.PairPlace.{PairPlace}
+use Rattle.clauses.specs.declared.question.PairPlace.the-variants.{Both, Unknown}
 use Rattle.clauses.specs.declared.Answer.{Answer}
 use Rattle.clauses.specs.declared.Answer.the-variants.{Judged, Refused}
 
@@ -31,20 +33,25 @@ abbrev pub says : Answer → Says
 says (Judged v) = verdictSays v
 says (Refused cause offset) = refuses (numberOf cause) offset
 
--- The answer that a question about an accepted file should have: a pane that is not in it comes before a glass that is not, both
--- with offset 0; else the verdict of the two.
-unfoldable pub jobAnswer : List Glass → List Pane → ℕ → ℕ → Says
-jobAnswer glasses panes pane glass =
-    elim (placeOf pane (paneIdsOf panes)) [
-      | Missing ↦ refuses (numberOf NoPane) 0
+-- The places of the pane and the glass of two ids; an unknown pane comes before an unknown glass.
+unfoldable pub pairOf : (glassIds paneIds : List ℕ) (pane glass : ℕ) → PairPlace
+pairOf glassIds paneIds pane glass =
+    elim (placeOf pane paneIds) [
+      | Missing ↦ Unknown NoPane
       | At p ↦
-          elim (placeOf glass (glassIdsOf glasses)) [
-            | Missing ↦ refuses (numberOf NoGlass) 0
-            | At g ↦ verdictSays (verdictOf (paneAt panes p) (glassAt glasses g))
+          elim (placeOf glass glassIds) [
+            | Missing ↦ Unknown NoGlass
+            | At g ↦ Both p g
           ]
     ]
+
+-- The answer to a question about a pane and a glass of an accepted file: the verdict of the two, or a refusal with offset 0.
+abbrev pub pairAnswer : List Glass → List Pane → PairPlace → Says
+pairAnswer glasses panes (Both p g) = verdictSays (verdictOf (paneAt panes p) (glassAt glasses g))
+pairAnswer glasses panes (Unknown cause) = refuses (numberOf cause) 0
 
 -- The answer that a question should have: the file's own refusal comes first.
 unfoldable pub answerOf : Outcome → ℕ → ℕ → Says
 answerOf (refused cause offset) pane glass = refuses (numberOf cause) offset
-answerOf (accepted glasses panes) pane glass = jobAnswer glasses panes pane glass
+answerOf (accepted glasses panes) pane glass =
+    pairAnswer glasses panes (pairOf (glassIdsOf glasses) (paneIdsOf panes) pane glass)

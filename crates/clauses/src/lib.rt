@@ -10,13 +10,15 @@ mod tables;
 
 use causes::Cause;
 use job_file::Checked;
+use job_file::numbers_of;
 use job_file::read_job;
 pub use judging::LoadedPane;
 pub use judging::Verdict;
 pub use judging::judge;
 pub use judging::judge_loaded;
 pub use judging::load_pane;
-use question::judge_ids;
+use question::PairPlace;
+use question::find_pair;
 pub use tables::ClauseTables;
 pub use tables::clause_tables;
 ghost use mathlib.Core.Path.{_≡_};
@@ -42,7 +44,14 @@ pub fn verdict(file: &[u8], pane: u32, glass: u32) -> Answer
             pane_count: _,
         } => {
             let job = reading.job;
-            judge_ids(job, pane, glass)
+            match find_pair(numbers_of(job), pane, glass) {
+                PairPlace::Unknown(cause) => Answer::Refused { cause, offset: 0 },
+                PairPlace::Both(p, g) => {
+                    let the_pane = job.panes[p];
+                    let the_glass = job.glasses[g];
+                    Answer::Judged(judge(the_pane, the_glass))
+                }
+            }
         }
     }
 }

@@ -5,7 +5,8 @@
 --     few-glasses, few-panes      the lists are within their arrays
 --     glasses-long, panes-long    which have 64 and 256 entries
 --     glass-at, pane-at           a glass and a pane of a job are of allowed values
---     ids-front                   the ids of a list at the front of an array
+--     as-many-panes               a job's numbers count its panes
+--     glass-ids-lent, pane-ids-lent    the lists of ids that are lent of a job's numbers
 use Prim.Native.Nat.{ℕ, _≤_, _<_}
 use mathlib.Core.Path.{_≡_, refl, ap, sym, subst, _∙_}
 use mathlib.Core.List.{List, map}
@@ -24,10 +25,11 @@ use Rattle.job_pane.specs.PaneLine.{blankPane}
 use Rattle.job_pane.specs.Values.{PaneValues}
 use Rattle.job_pane.specs.declared.Pane.{Pane}
 use Rattle.job_file.specs.File.{Outcome, accepted, refused, outcomeOf}
-use Rattle.job_file.specs.Job.{jobOf, glassesOf, panesOf, glassAt, paneAt}
+use Rattle.job_file.specs.Job.{jobOf, glassesOf, panesOf, glassAt, paneAt, glassIdsOf, paneIdsOf, numbersOf}
 use Rattle.job_file.specs.Answer.{refuses, says, answerOf, Reads}
 use Rattle.job_file.specs.Rules.{ReadJob}
 use Rattle.job_file.specs.declared.job.Job.{Job}
+use Rattle.job_file.specs.declared.job.JobNumbers.{JobNumbers}
 use Rattle.job_file.specs.declared.Checked.the-variants.{Accepted, Refused}
 use Rattle.job_file.specs.declared.Reading.{Reading}
 use Rattle.job_file.proofs.Accepted.{accepted-rules, glass-values, pane-values}
@@ -106,8 +108,20 @@ module _ (job : Job) (r : ReadJob job) where
       subst PaneValues (getD-take (job .«pane_count») (job .panes) p blankPane l)
       (pane-values (r .rules) p (omega (arith, pane-count)))
 
+pub as-many-panes :
+    (job : Job) → ReadJob job → (numbers : JobNumbers) → numbers ≡ numbersOf (glassesOf job) (panesOf job) →
+    numbers .«pane_count» ≡ job .«pane_count»
+as-many-panes job r numbers are = ap (λ (n : JobNumbers). n .«pane_count») are ∙ sym (pane-count job r)
+
 -- The ids at the front of an array that is made of a list: those of the list.
-pub ids-front :
-    {A : Type 0} (f : A → ℕ) (size n : ℕ) (xs : List A) (array : List ℕ) →
-    array ≡ padded size 0 (map f xs) → n ≡ length xs → take n array ≡ map f xs
-ids-front f size n xs array is long = rw is (take-at (map f xs) _ n (length-map xs f ∙ sym long))
+ids-front :
+    {A : Type 0} (f : A → ℕ) (size : ℕ) (xs : List A) → take (length xs) (padded size 0 (map f xs)) ≡ map f xs
+ids-front f size xs = take-at (map f xs) _ (length xs) (length-map xs f)
+
+-- The lists of ids that are lent of a job's numbers are those of its glasses and panes.
+module _ (numbers : JobNumbers) (glasses : List Glass) (panes : List Pane) (are : numbers ≡ numbersOf glasses panes) where
+  pub glass-ids-lent : take (numbers .«glass_count») (numbers .«glass_ids») ≡ glassIdsOf glasses
+  glass-ids-lent = rw are (ids-front (λ x. x .id) 64 glasses)
+
+  pub pane-ids-lent : take (numbers .«pane_count») (numbers .«pane_ids») ≡ paneIdsOf panes
+  pane-ids-lent = rw are (ids-front (λ x. x .id) 256 panes)

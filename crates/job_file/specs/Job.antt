@@ -9,6 +9,7 @@ use Rattle.job_glass.specs.declared.Glass.{Glass}
 use Rattle.job_pane.specs.PaneLine.{blankPane}
 use Rattle.job_pane.specs.declared.Pane.{Pane}
 use Rattle.job_file.specs.declared.job.Job.{Job}
+use Rattle.job_file.specs.declared.job.JobNumbers.{JobNumbers}
 
 -- The job of these glasses and panes, with blanks behind them.
 abbrev pub jobOf : List Glass → List Pane → Job
@@ -42,3 +43,13 @@ paneIdsOf panes = map (λ p. p .id) panes
 
 abbrev pub stocksOf : List Glass → List ℕ
 stocksOf glasses = map (λ g. g .stock) glasses
+
+-- Those numbers at the front of arrays, with 0 behind them, and how many there are.
+abbrev pub numbersOf : List Glass → List Pane → JobNumbers
+numbersOf glasses panes = record {
+  «glass_count» = length glasses;
+  «glass_ids» = padded 64 0 (glassIdsOf glasses);
+  stocks = padded 64 0 (stocksOf glasses);
+  «pane_count» = length panes;
+  «pane_ids» = padded 256 0 (paneIdsOf panes);
+}

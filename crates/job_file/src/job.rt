@@ -2,8 +2,7 @@
 use job_glass::Glass;
 use job_pane::Pane;
 ghost use mathlib.Core.Path.{_≡_};
-ghost use Rattle.job_part.specs.Arrays.{padded};
-ghost use Rattle.job_file.specs.Job.{glassesOf, panesOf, glassIdsOf, paneIdsOf, stocksOf};
+ghost use Rattle.job_file.specs.Job.{glassesOf, panesOf, numbersOf};
 ghost use Rattle.job_file.specs.Rules.{ReadJob};
 
 // The glasses and the panes of a file, in file order at the front of their arrays; every other entry is of zeros.
@@ -14,47 +13,41 @@ pub struct Job {
     pub pane_count: usize,
 }
 
-// The id of each glass, and 0 past the last.
-pub fn glass_ids_of(job: Job) -> [u32; 64]
-    requires { ⌜ ReadJob job ⌝ }
-    ensures { λ r. ⌜ r ≡ padded 64 0 (glassIdsOf (glassesOf job)) ⌝ }
-{
-    let mut ids = [0u32; 64];
-    let mut g = 0;
-    while g < job.glass_count {
-        let glass = job.glasses[g];
-        ids[g] = glass.id;
-        g += 1;
-    }
-    ids
+// The ids and the stocks of a job's glasses and the ids of its panes, as lists of numbers that can be lent; 0 past the last.
+pub struct JobNumbers {
+    pub glass_count: usize,
+    pub glass_ids: [u32; 64],
+    pub stocks: [u32; 64],
+    pub pane_count: usize,
+    pub pane_ids: [u32; 256],
 }
 
-// The stock of each glass, and 0 past the last.
-pub fn stocks_of(job: Job) -> [u32; 64]
+// All of them at once, since each function that takes a job copies it.
+pub fn numbers_of(job: Job) -> JobNumbers
     requires { ⌜ ReadJob job ⌝ }
-    ensures { λ r. ⌜ r ≡ padded 64 0 (stocksOf (glassesOf job)) ⌝ }
+    ensures { λ r. ⌜ r ≡ numbersOf (glassesOf job) (panesOf job) ⌝ }
 {
+    let mut glass_ids = [0u32; 64];
     let mut stocks = [0u32; 64];
     let mut g = 0;
     while g < job.glass_count {
         let glass = job.glasses[g];
+        glass_ids[g] = glass.id;
         stocks[g] = glass.stock;
         g += 1;
     }
-    stocks
-}
-
-// The id of each pane, and 0 past the last.
-pub fn pane_ids_of(job: Job) -> [u32; 256]
-    requires { ⌜ ReadJob job ⌝ }
-    ensures { λ r. ⌜ r ≡ padded 256 0 (paneIdsOf (panesOf job)) ⌝ }
-{
-    let mut ids = [0u32; 256];
+    let mut pane_ids = [0u32; 256];
     let mut p = 0;
     while p < job.pane_count {
         let pane = job.panes[p];
-        ids[p] = pane.id;
+        pane_ids[p] = pane.id;
         p += 1;
     }
-    ids
+    JobNumbers {
+        glass_count: job.glass_count,
+        glass_ids,
+        stocks,
+        pane_count: job.pane_count,
+        pane_ids,
+    }
 }

@@ -1,6 +1,6 @@
--- The rows, stocks and ids that are made of a job that was read state its schedule.
+-- The rows and the numbers that are made of a job that was read state its schedule.
 --     known-file    an accepted file has what the placing asks of a schedule
---     stated-job    the numbers of a job state its schedule
+--     stated-job    its rows and numbers state its schedule
 use Prim.Native.Nat.{ℕ, _≤_, _<_}
 use mathlib.Core.Path.{_≡_, ap, sym, _∙_}
 use mathlib.Core.List.{List}
@@ -12,10 +12,11 @@ use Rattle.job_glass.specs.GlassLine.{blankGlass}
 use Rattle.job_glass.specs.declared.Glass.{Glass}
 use Rattle.job_pane.specs.PaneLine.{blankPane}
 use Rattle.job_pane.specs.declared.Pane.{Pane}
-use Rattle.job_file.specs.Job.{glassesOf, panesOf, glassIdsOf, paneIdsOf, stocksOf}
+use Rattle.job_file.specs.Job.{glassesOf, panesOf, glassIdsOf, paneIdsOf, stocksOf, numbersOf}
 use Rattle.job_file.specs.Rules.{Rules, ReadJob}
 use Rattle.job_file.specs.declared.job.Job.{Job}
-use Rattle.job_file.proofs.Laws.{glass-values, glass-ids, pane-ids, few-panes, pane-count, ids-front}
+use Rattle.job_file.specs.declared.job.JobNumbers.{JobNumbers}
+use Rattle.job_file.proofs.Laws.{glass-values, glass-ids, pane-ids, few-panes, as-many-panes, pane-ids-lent}
 use Rattle.row_placing.specs.Stated.{Known, Stated}
 use Rattle.placing.specs.Passing.{scheduleOf}
 use Rattle.placing.specs.Steps.{JobRows}
@@ -35,7 +36,7 @@ module _ {glasses : List Glass} {panes : List Pane} (rules : Rules glasses panes
     pane-ids = λ i j l k e. pane-ids rules i j l (rw length-map at k) (sym (pane-id-at i) ∙ e ∙ pane-id-at j);
   }
 
-module _ (job : Job) (r : ReadJob job) (rows stocks glassIds paneIds : List ℕ) where
+module _ (job : Job) (r : ReadJob job) (rows : List ℕ) (numbers : JobNumbers) where
   abbrev glasses : List Glass
   glasses = glassesOf job
 
@@ -47,21 +48,23 @@ module _ (job : Job) (r : ReadJob job) (rows stocks glassIds paneIds : List ℕ)
   at-front xs array g is l = rw is (List·getD-append xs _ 0 g l)
 
   pub stated-job :
-      length rows ≡ 256 → JobRows (scheduleOf glasses (stocksOf glasses) panes) rows →
-      stocks ≡ padded 64 0 (stocksOf glasses) → glassIds ≡ padded 64 0 (glassIdsOf glasses) →
-      paneIds ≡ padded 256 0 (paneIdsOf panes) →
-      Stated (scheduleOf glasses (stocksOf glasses) panes) (take (job .«pane_count») rows) stocks glassIds
-      (take (job .«pane_count») paneIds)
-  stated-job long are-rows s g p = record {
+      length rows ≡ 256 → JobRows (scheduleOf glasses (stocksOf glasses) panes) rows → numbers ≡ numbersOf glasses panes →
+      Stated (scheduleOf glasses (stocksOf glasses) panes) (take (numbers .«pane_count») rows) (numbers .stocks)
+      (numbers .«glass_ids») (take (numbers .«pane_count») (numbers .«pane_ids»))
+  stated-job long are-rows are = record {
     known = known-file (r .rules) (stocksOf glasses);
-    a-row-each = length-take-le (job .«pane_count») rows (omega (arith, long, few-panes job r)) ∙ as-many;
-    rows-are =
-        λ i l j k. rw (getD-take (job .«pane_count») rows i 0 (omega (arith, as-many))) (are-rows .of-panes i l j k);
-    sheets-are = λ i l. at-front (stocksOf glasses) stocks i s (rw length-map (rw length-map at l));
-    glass-ids-are = λ i l. at-front (glassIdsOf glasses) glassIds i g l;
-    pane-ids-are =
-        λ i l. ap (λ (ids : List ℕ). getD ids i 0) (ids-front (λ x. x .id) 256 (job .«pane_count») panes paneIds p (pane-count job r));
+    a-row-each = length-take-le count rows (omega (arith, long, as-many-panes job r numbers are, few-panes job r)) ∙ as-many;
+    rows-are = λ i l j k. rw (getD-take count rows i 0 (omega (arith, as-many))) (are-rows .of-panes i l j k);
+    sheets-are =
+        λ i l.
+        at-front (stocksOf glasses) (numbers .stocks) i (ap (λ (n : JobNumbers). n .stocks) are) (rw length-map (rw length-map at l));
+    glass-ids-are =
+        λ i l. at-front (glassIdsOf glasses) (numbers .«glass_ids») i (ap (λ (n : JobNumbers). n .«glass_ids») are) l;
+    pane-ids-are = λ i l. ap (λ (ids : List ℕ). getD ids i 0) (pane-ids-lent numbers glasses panes are);
   }
     where
-      as-many : job .«pane_count» ≡ length (paneIdsOf panes)
-      as-many = pane-count job r ∙ sym (length-map panes (λ x. x .id))
+      count : ℕ
+      count = numbers .«pane_count»
+
+      as-many : numbers .«pane_count» ≡ length (paneIdsOf panes)
+      as-many = ap (λ (n : JobNumbers). n .«pane_count») are ∙ sym (length-map panes (λ x. x .id))

@@ -18,11 +18,11 @@ use Rattle.causes.specs.declared.Cause.{Cause}
 use Rattle.job_glass.specs.GlassLine.{blankGlass}
 use Rattle.job_pane.specs.PaneLine.{blankPane}
 use Rattle.job_file.specs.File.{Outcome, accepted, refused}
-use Rattle.job_file.specs.Job.{glassesOf, panesOf, glassIdsOf, paneIdsOf, stocksOf}
+use Rattle.job_file.specs.Job.{glassesOf, panesOf, stocksOf, numbersOf}
 use Rattle.job_file.specs.Rules.{ReadJob}
 use Rattle.job_file.specs.declared.job.Job.{Job}
-use Rattle.job_file.proofs.Laws.{glass-values, pane-values, pane-count, few-panes, ids-front}
-use Rattle.job_part.specs.Arrays.{padded}
+use Rattle.job_file.specs.declared.job.JobNumbers.{JobNumbers}
+use Rattle.job_file.proofs.Laws.{glass-values, pane-values, few-panes, as-many-panes, pane-ids-lent}
 use Rattle.row_placing.specs.Schedule.{Schedule}
 use Rattle.row_placing.specs.Placing.{PassingId}
 use Rattle.row_placing.specs.ShortGroup.{ShortGroup}
@@ -67,15 +67,24 @@ module _ (job : Job) (read : ReadJob job) where
   pane-short p l =
       rw (List·getD-map (λ x. x .id) (panesOf job) p blankPane) (pane-values (read .rules) p (rw length-map at l) .id-high)
 
-  as-many : length (schedule .panes) ≡ job .«pane_count»
-  as-many = length-map (panesOf job) (λ x. x .id) ∙ sym (pane-count job read)
+  module _
+      (numbers : JobNumbers) (are : numbers ≡ numbersOf (glassesOf job) (panesOf job))
+      (r : PlaceCounts) (answers group : Lent) (g : Glazed schedule r answers group)
+    where
+    as-many : length (schedule .panes) ≡ numbers .«pane_count»
+    as-many = length-map (panesOf job) (λ x. x .id) ∙ ap (λ (n : JobNumbers). n .«pane_count») (sym are)
 
-  module _ (r : PlaceCounts) (answers group : Lent) (g : Glazed schedule r answers group) where
+    most : numbers .«pane_count» ≤ 256
+    most = omega (arith, as-many-panes job read numbers are, few-panes job read)
+
+    ids-are : take (numbers .«pane_count») (numbers .«pane_ids») ≡ schedule .panes
+    ids-are = pane-ids-lent numbers (glassesOf job) (panesOf job) are
+
     -- The answers are the ids of the placing, and the group its group.
-    answers-long : length (g .ids) ≡ job .«pane_count»
+    answers-long : length (g .ids) ≡ numbers .«pane_count»
     answers-long = g .glazing .placing .one-each ∙ as-many
 
-    answers-are : take (job .«pane_count») (answers .after) ≡ g .ids
+    answers-are : take (numbers .«pane_count») (answers .after) ≡ g .ids
     answers-are = subst (λ (n : ℕ). take n (answers .after) ≡ g .ids) answers-long (g .answers-written .front)
 
     listed-are : take (r .group) (group .after) ≡ g .group-ids
@@ -110,41 +119,37 @@ module _ (job : Job) (read : ReadJob job) where
         go (inl all) = λ k l. absurd (omega (arith, ap length (g .glazing .if-equal all)))
         go (inr less) = of-panes (g .glazing .if-less less)
 
-    module _ (ids : List ℕ) (are-ids : ids ≡ padded 256 0 (paneIdsOf (panesOf job))) where
-      ids-are : take (job .«pane_count») ids ≡ schedule .panes
-      ids-are = ids-front (λ x. x .id) 256 (job .«pane_count») (panesOf job) ids are-ids (pane-count job read)
+    pub printable :
+        Answers (take (numbers .«pane_count») (numbers .«pane_ids»)) (take (numbers .«pane_count») (answers .after))
+        × FourDigits (take (r .group) (group .after)) × (r .placed ≤ 256)
+    printable =
+        rw (ids-are, answers-are, listed-are) (
+          record {
+            one-each = g .glazing .placing .one-each;
+            few = omega (arith, answers-long, most);
+            answers-short = answer-short;
+            ids-short = pane-short;
+          },
+          group-short,
+          omega (
+            arith,
+            g .glazing .placed-is,
+            nonzero-le (g .ids) (numbers .«pane_count») answers-long,
+            most,
+          ),
+        )
 
-      pub printable :
-          Answers (take (job .«pane_count») ids) (take (job .«pane_count») (answers .after))
-          × FourDigits (take (r .group) (group .after)) × (r .placed ≤ 256)
-      printable =
-          rw (ids-are, answers-are, listed-are) (
-            record {
-              one-each = g .glazing .placing .one-each;
-              few = omega (arith, answers-long, few-panes job read);
-              answers-short = answer-short;
-              ids-short = pane-short;
-            },
-            group-short,
-            omega (
-              arith,
-              g .glazing .placed-is,
-              nonzero-le (g .ids) (job .«pane_count») answers-long,
-              few-panes job read,
-            ),
-          )
-
-      pub printed :
-          (o : Outcome) → o ≡ accepted (glassesOf job) (panesOf job) →
-          TextOf o
-          (placingText (take (job .«pane_count») ids) (take (job .«pane_count») (answers .after))
-          (length (take (job .«pane_count») (answers .after))) (r .placed) (take (r .group) (group .after)))
-      printed o is =
-          rw is
-          (record {
-            ids = g .ids;
-            group = g .group-ids;
-            placed = r .placed;
-            glazing = g .glazing;
-            is-text = rw (ids-are, answers-are, listed-are, g .glazing .placing .one-each, length-map);
-          })
+    pub printed :
+        (o : Outcome) → o ≡ accepted (glassesOf job) (panesOf job) →
+        TextOf o
+        (placingText (take (numbers .«pane_count») (numbers .«pane_ids»)) (take (numbers .«pane_count») (answers .after))
+        (length (take (numbers .«pane_count») (answers .after))) (r .placed) (take (r .group) (group .after)))
+    printed o is =
+        rw is
+        (record {
+          ids = g .ids;
+          group = g .group-ids;
+          placed = r .placed;
+          glazing = g .glazing;
+          is-text = rw (ids-are, answers-are, listed-are, g .glazing .placing .one-each, length-map);
+        })

@@ -6,7 +6,7 @@ mod number;
 mod text;
 
 use job_file::Checked;
-use job_file::pane_ids_of;
+use job_file::numbers_of;
 use job_file::read_job;
 use causes::number_of;
 use placing::place_panes;
@@ -29,8 +29,9 @@ pub fn report(file: &[u8], text: &mut [u8; 4096]) -> usize
             pane_count: _,
         } => {
             let job = reading.job;
-            let ids = pane_ids_of(job);
-            let count = job.pane_count;
+            let numbers = numbers_of(job);
+            let ids = numbers.pane_ids;
+            let count = numbers.pane_count;
             let mut answers = [0u32; 256];
             let mut group = [0u32; 256];
             let counts = place_panes(job, &mut answers, &mut group);

@@ -11,7 +11,8 @@ use Rattle.basics.specs.Lent.{Lent, lent}
 use Rattle.causes.proofs.Numbers.{numbered}
 use Rattle.job_file.specs.File.{refused, outcomeOf}
 use Rattle.job_file.specs.declared.job.Job.{Job}
-use Rattle.job_file.proofs.Laws.{JobOf, job-read, refusal-read, refused-within, few-panes}
+use Rattle.job_file.specs.declared.job.JobNumbers.{JobNumbers}
+use Rattle.job_file.proofs.Laws.{JobOf, job-read, refusal-read, refused-within, few-panes, as-many-panes}
 use Rattle.report.specs.Text.{refusalText}
 use Rattle.report.proofs.Printed.{reported, printed-refusal, listed-fits, printable, printed}
 use Rattle.report.proofs.report.Statement.{statement}
@@ -65,8 +66,11 @@ refusal c =
 abbrev zeros : List ℕ
 zeros = replicate 256 0
 
-abbrev ids : tie.After-place-panes → tie.After-pane-ids-of
-ids p = p .before .before .before
+abbrev made : tie.After-place-panes → tie.After-numbers-of
+made p = p .before .before .before .before
+
+abbrev numbers : tie.After-numbers-of → JobNumbers
+numbers n = n .numbers-of .result
 
 abbrev answers : tie.After-place-panes → Lent
 answers p = lent zeros (p .place-panes .last .1 .0)
@@ -74,29 +78,35 @@ answers p = lent zeros (p .place-panes .last .1 .0)
 abbrev group : tie.After-place-panes → Lent
 group p = lent zeros (p .place-panes .last .1 .1 .0)
 
-ids-long : (i : tie.After-pane-ids-of) → length (i .pane-ids-of .result) ≡ 256
-ids-long i = search needs
+ids-long : (n : tie.After-numbers-of) → length (numbers n .«pane_ids») ≡ 256
+ids-long n = search needs
 
-ids-fit : (i : tie.After-pane-ids-of) → job (i .before) .«pane_count» ≤ length (i .pane-ids-of .result)
-ids-fit i = omega (arith, ids-long i, most (i .before))
+-- There are as many ids and answers as panes.
+few : (n : tie.After-numbers-of) → numbers n .«pane_count» ≤ 256
+few n =
+    let k = n .before in
+    omega (arith, as-many-panes (job k) (is-job k .read) (numbers n) (n .numbers-of .ensures), most k)
 
-answers-fit : (p : tie.After-place-panes) → job (ids p .before) .«pane_count» ≤ length (answers p .after)
-answers-fit p = omega (arith, most (ids p .before), p .place-panes .kept .1 .0)
+ids-fit : (n : tie.After-numbers-of) → numbers n .«pane_count» ≤ length (numbers n .«pane_ids»)
+ids-fit n = omega (arith, ids-long n, few n)
+
+answers-fit : (p : tie.After-place-panes) → numbers (made p) .«pane_count» ≤ length (answers p .after)
+answers-fit p = omega (arith, few (made p), p .place-panes .kept .1 .0)
 
 -- The group is within its list.
 group-fits : (p : tie.After-place-panes) → p .place-panes .result .group ≤ length (group p .after)
 group-fits p =
-    let k = ids p .before in
-    listed-fits (job k) (is-job k .read) _ (answers p) (group p) (p .place-panes .ensures)
+    let n = made p in
+    let k = n .before in
+    listed-fits (job k) (is-job k .read) (numbers n) (n .numbers-of .ensures) _ (answers p) (group p) (p .place-panes .ensures)
 
 placing-requires : tie.Need-write-placing-requires
 placing-requires c κs =
     let p = c .before .before .before .before .before .before in
-    let i = ids p in
-    let k = i .before in
+    let n = made p in
+    let k = n .before in
     let able =
-    printable (job k) (is-job k .read) _ (answers p) (group p) (p .place-panes .ensures) (i .pane-ids-of .result)
-    (i .pane-ids-of .ensures) in (
+    printable (job k) (is-job k .read) (numbers n) (n .numbers-of .ensures) _ (answers p) (group p) (p .place-panes .ensures) in (
       able .0,
       able .1,
       omega (arith, able .2),
@@ -112,12 +122,12 @@ placing-requires c κs =
 placed : tie.Need-returns-2
 placed c =
     let p = c .before .before .before .before .before .before .before in
-    let i = ids p in
-    let k = i .before in
+    let n = made p in
+    let k = n .before in
     let a = read k .before .before .args in
     reported (outcomeOf (now (a .file))) _ (now (a .text)) (c .write-placing .last .1 .1 .1 .1 .0) (c .write-placing .result)
-    (printed (job k) (is-job k .read) _ (answers p) (group p) (p .place-panes .ensures) (i .pane-ids-of .result)
-    (i .pane-ids-of .ensures) (outcomeOf (now (a .file))) (is-job k .outcome))
+    (printed (job k) (is-job k .read) (numbers n) (n .numbers-of .ensures) _ (answers p) (group p) (p .place-panes .ensures)
+    (outcomeOf (now (a .file))) (is-job k .outcome))
     (c .write-placing .ensures)
 
 pub report-spec : {M : Type 1} → statement M
@@ -132,9 +142,9 @@ report-spec =
     (λ c κs. is-job c .read)
     (λ c. search needs)
     (λ c. search needs)
-    (λ c κs. let k = c .before .before .before in (is-job k .read, most k, most k))
-    (λ c. ids-fit (ids (c .before .before)))
-    (λ c. let i = ids (c .before .before .before) in sym (length-take-le _ (i .pane-ids-of .result) (ids-fit i)))
+    (λ c κs. let k = c .before .before .before .before in (is-job k .read, most k, most k))
+    (λ c. ids-fit (made (c .before .before)))
+    (λ c. let n = made (c .before .before .before) in sym (length-take-le _ (numbers n .«pane_ids») (ids-fit n)))
     (λ c. answers-fit (c .before .before .before))
     (λ c. let p = c .before .before .before .before in sym (length-take-le _ (answers p .after) (answers-fit p)))
     (λ c. group-fits (c .before .before .before .before))
