@@ -4,7 +4,7 @@ use libc::ENAMETOOLONG;
 ghost use Rattle.io.specs.Counts.{Counts};
 ghost use Rattle.job_tool.specs.Leaves.{Leaves};
 
-// What came of reading a file: how many bytes it put at the start of the buffer, or why it put none there.
+// What came of reading a file: how many bytes of it stand at the start of the buffer, or why there is no file to go by.
 pub enum FileRead {
     Bytes(usize),
     NotOpened,
