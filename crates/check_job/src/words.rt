@@ -2,15 +2,15 @@
 use causes::Cause;
 use causes::number_of;
 use job_tool::say;
-use libc::STDERR_FILENO;
+use job_tool::say_number;
 
 pub(crate) fn explain(cause: Cause, offset: usize, line: usize) {
     say(b"line ");
-    io::print_decimal(STDERR_FILENO, line as u64);
+    say_number(line as u64);
     say(b", byte ");
-    io::print_decimal(STDERR_FILENO, offset as u64);
+    say_number(offset as u64);
     say(b" (counted from 0): cause ");
-    io::print_decimal(STDERR_FILENO, number_of(cause) as u64);
+    say_number(number_of(cause) as u64);
     say(b", ");
     job_tool::say_cause(cause);
     say(b"\n");

@@ -9,6 +9,7 @@ pub use argument::write_name;
 pub use argument::write_unread;
 pub use words::say;
 pub use words::say_cause;
+pub use words::say_number;
 pub use words::write;
 pub use words::write_number;
 pub use words::write_refusal;

@@ -4,6 +4,7 @@ use causes::number_of;
 use libc::STDERR_FILENO;
 use libc::STDOUT_FILENO;
 
+// On standard output.
 pub fn write(text: &[u8]) {
     io::write_all(STDOUT_FILENO, text);
 }
@@ -21,8 +22,13 @@ pub fn write_refusal(cause: Cause, offset: usize) {
     write(b"\n");
 }
 
+// On standard error.
 pub fn say(text: &[u8]) {
     io::write_all(STDERR_FILENO, text);
+}
+
+pub fn say_number(number: u64) {
+    io::print_decimal(STDERR_FILENO, number);
 }
 
 // A cause in plain words, and what to do about it, on standard error.

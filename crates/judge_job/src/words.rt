@@ -4,7 +4,6 @@ use causes::number_of;
 use clauses::Answer;
 use clauses::Verdict;
 use job_tool::say;
-use libc::STDERR_FILENO;
 
 // Why the glass may not be used; nothing where it may.
 pub(crate) fn explain(answer: Answer) {
@@ -21,7 +20,7 @@ fn explain_refusal(cause: Cause) {
     match cause {
         Cause::NoPane | Cause::NoGlass => {
             say(b"number ");
-            io::print_decimal(STDERR_FILENO, number_of(cause) as u64);
+            job_tool::say_number(number_of(cause) as u64);
             say(b": ");
             job_tool::say_cause(cause);
             say(b"\n");
