@@ -1,5 +1,4 @@
-// The arguments: names of files, and ids.
-use libc::STDOUT_FILENO;
+// The arguments that are ids.
 
 // The highest id that can be asked for, and what stands for an argument that is no id.
 pub(crate) const HIGHEST_ID: u64 = 4294967295;
@@ -41,21 +40,4 @@ fn number(digits: &[u8]) -> u64 {
         i += 1;
     }
     value
-}
-
-// Opens the file that argument `i` names. A name that is too long for the buffer is too long to be opened as well.
-pub(crate) fn open(i: usize) -> i32 {
-    let mut name = io::buffer();
-    let length = os::arg(i, &mut name);
-    let fd = os::open_read(&name[..length]);
-    if fd < 0 {
-        os::fail(&name[..length]);
-    }
-    fd
-}
-
-pub(crate) fn write_argument(i: usize) {
-    let mut text = io::buffer();
-    let length = os::arg(i, &mut text);
-    io::write_all(STDOUT_FILENO, &text[..length]);
 }

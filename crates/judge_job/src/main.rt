@@ -11,12 +11,15 @@ mod words;
 use arguments::HIGHEST_ID;
 use arguments::id_of;
 use arguments::is_id;
-use arguments::write_argument;
 use clauses::Answer;
 use clauses::Verdict;
 use job_file::Checked;
-use job_glass::Glass;
-use libc::STDOUT_FILENO;
+use job_file::Job;
+use job_tool::FileRead;
+use job_tool::write;
+use job_tool::write_name;
+use job_tool::write_number;
+use job_tool::write_refusal;
 
 fn main() {
     let count = os::arg_count();
@@ -34,37 +37,23 @@ fn main() {
     }
 }
 
-// Answers for the file that argument `name` names, whose ids stand from argument `next` on, or says that it was not opened.
+// Answers for the file that argument `name` names, whose ids stand from argument `next` on, or says that it was not opened or
+// not read.
 fn judge_named(name: usize, next: usize, count: usize) {
-    let fd = arguments::open(name);
-    if fd < 0 {
-        write_name(name);
-        write(b"not opened\n");
-        return;
-    }
-    judge_open(fd, name, next, count);
-    libc::close(fd);
-}
-
-// Answers for the open file of that name, or says that it was not read, as where the name is a folder's. Reading stops where a
-// file ends and also where it fails; one more read tells which it was. Of a file that is too long one byte too many is read.
-fn judge_open(fd: i32, name: usize, next: usize, count: usize) {
     let mut file = io::large_buffer();
-    let n = io::read_full(fd, &mut file);
-    if !can_read(fd) {
-        write_name(name);
-        write(b"not read\n");
-    } else if is_id(next) {
-        judge_pairs(&file[..n], name, next, count);
-    } else {
-        judge_all(&file[..n], name);
+    let read = job_tool::read_argument(name, &mut file);
+    match read {
+        FileRead::Bytes(length) => judge_file(&file[..length], name, next, count),
+        _ => job_tool::write_unread(name, read),
     }
 }
 
-// Whether a read of an open file succeeds, as it does at its end.
-fn can_read(fd: i32) -> bool {
-    let mut byte = [0u8; 1];
-    libc::read(fd, &mut byte) >= 0
+fn judge_file(file: &[u8], name: usize, next: usize, count: usize) {
+    if is_id(next) {
+        judge_pairs(file, name, next, count);
+    } else {
+        judge_all(file, name);
+    }
 }
 
 // Answers for the ids from argument `next` on, two by two, up to the next name.
@@ -104,18 +93,17 @@ fn judge_all(file: &[u8], name: usize) {
     match checked {
         Checked::Refused { cause, offset } => {
             write_name(name);
-            write_refusal(job_part::number_of(cause), offset);
+            write_refusal(cause, offset);
         }
         Checked::Accepted {
-            glasses: _,
-            panes: _,
+            glass_count: _,
+            pane_count: _,
         } => {
-            let panes = reading.panes;
-            let glasses = reading.glasses;
+            let job = reading.job;
             let mut i = 0;
             while i < 256 {
-                let pane = panes[i];
-                judge_row(file, name, pane.id, glasses);
+                let pane = job.panes[i];
+                judge_row(file, name, pane.id, job);
                 i += 1;
             }
         }
@@ -123,13 +111,13 @@ fn judge_all(file: &[u8], name: usize) {
 }
 
 // Answers for a pane with every glass. Behind a file's panes and glasses the arrays have entries of the id 0.
-fn judge_row(file: &[u8], name: usize, pane: u32, glasses: [Glass; 64]) {
+fn judge_row(file: &[u8], name: usize, pane: u32, job: Job) {
     if pane == 0 {
         return;
     }
     let mut i = 0;
     while i < 64 {
-        let glass = glasses[i];
+        let glass = job.glasses[i];
         if glass.id > 0 {
             judge(file, name, pane, glass.id, false);
         }
@@ -142,7 +130,9 @@ fn judge(file: &[u8], name: usize, pane: u32, glass: u32, is_single: bool) {
     let answer = clauses::verdict(file, pane, glass);
     write_name(name);
     write_number(pane as u64);
+    write(b" ");
     write_number(glass as u64);
+    write(b" ");
     write_answer(answer);
     if is_single {
         words::explain(answer);
@@ -153,9 +143,7 @@ fn judge(file: &[u8], name: usize, pane: u32, glass: u32, is_single: bool) {
 fn write_answer(answer: Answer) {
     match answer {
         Answer::Judged(verdict) => write_verdict(verdict),
-        Answer::Refused { cause, offset } => write_refusal(job_part::number_of(cause), offset),
-        Answer::NoPane => write_refusal(10, 0),
-        Answer::NoGlass => write_refusal(11, 0),
+        Answer::Refused { cause, offset } => write_refusal(cause, offset),
     }
 }
 
@@ -164,41 +152,15 @@ fn write_verdict(verdict: Verdict) {
         Verdict::Passes => write(b"passes\n"),
         Verdict::Fails(clause) => {
             write(b"fails ");
-            write_last(clause as u64);
+            write_number(clause as u64);
+            write(b"\n");
         }
     }
-}
-
-fn write_refusal(number: u32, offset: usize) {
-    write(b"refused ");
-    write_number(number as u64);
-    write_last(offset as u64);
 }
 
 // A line that is about argument `i`.
 fn write_about(name: usize, i: usize, text: &[u8]) {
     write_name(name);
-    write_argument(i);
+    job_tool::write_argument(i);
     write(text);
-}
-
-fn write_name(name: usize) {
-    write_argument(name);
-    write(b": ");
-}
-
-// A number that another word follows.
-fn write_number(number: u64) {
-    io::print_decimal(STDOUT_FILENO, number);
-    write(b" ");
-}
-
-// A number that ends a line.
-fn write_last(number: u64) {
-    io::print_decimal(STDOUT_FILENO, number);
-    write(b"\n");
-}
-
-fn write(text: &[u8]) {
-    io::write_all(STDOUT_FILENO, text);
 }

@@ -1,7 +1,9 @@
 // What is said to people, on standard error: an answer in plain words, with the number and the name of the clause.
+use causes::Cause;
+use causes::number_of;
 use clauses::Answer;
 use clauses::Verdict;
-use libc::STDERR_FILENO;
+use job_tool::say;
 
 // Why the glass may not be used; nothing where it may.
 pub(crate) fn explain(answer: Answer) {
@@ -10,14 +12,22 @@ pub(crate) fn explain(answer: Answer) {
             Verdict::Passes => {}
             Verdict::Fails(clause) => explain_clause(clause),
         },
-        Answer::Refused {
-            cause: _,
-            offset: _,
-        } => say(
+        Answer::Refused { cause, offset: _ } => explain_refusal(cause),
+    }
+}
+
+fn explain_refusal(cause: Cause) {
+    match cause {
+        Cause::NoPane | Cause::NoGlass => {
+            say(b"number ");
+            job_tool::say_number(number_of(cause) as u64);
+            say(b": ");
+            job_tool::say_cause(cause);
+            say(b"\n");
+        }
+        _ => say(
             b"the file is refused, so nothing of it is judged; check_job says what is wrong with it and where\n",
         ),
-        Answer::NoPane => say(b"number 10: no pane of the file has that id\n"),
-        Answer::NoGlass => say(b"number 11: no glass of the file has that id\n"),
     }
 }
 
@@ -42,8 +52,4 @@ pub(crate) fn say_usage() {
     say(
         b"usage: judge_job FILE [PANE GLASS].. [FILE [PANE GLASS]..]..; FILE alone asks for every pane with every glass\n",
     );
-}
-
-fn say(text: &[u8]) {
-    io::write_all(STDERR_FILENO, text);
 }

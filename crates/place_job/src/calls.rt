@@ -1,15 +1,16 @@
 // The calls that a file is tried with, and the refusal that is due from each: document 01, "What each cause gives".
+use crate::job::Due;
 use crate::job::Job;
-use crate::job::Refusal;
 use crate::job::job_of;
 use crate::lists::FILLINGS;
 use crate::lists::LONGEST;
 use crate::lists::filled;
 use crate::lists::is_same_from;
-use crate::rules::Counts;
 use crate::rules::Outcome;
 use crate::rules::Rule;
 use crate::rules::check_result;
+use causes::Cause;
+use causes::number_of;
 use placing::Placed;
 ghost use Prim.Native.Nat.{_≤_};
 
@@ -19,12 +20,6 @@ struct Called {
     answers: [u32; LONGEST],
     group: [u32; LONGEST],
 }
-
-// The refusal of a lent list that is shorter than the number of panes.
-const LIST_TOO_SHORT: Refusal = Refusal {
-    number: 9,
-    offset: 0,
-};
 
 // How many calls are made: three lengths of each list, and the ways to fill them.
 const CALLS: usize = 9 * FILLINGS;
@@ -49,30 +44,25 @@ fn try_call(file: &[u8], job: Job, call: usize) -> Outcome {
     let before = filled(call / 9, pane_ids, glass_ids);
     let answers_length = length_of(call % 3, job.pane_count);
     let group_length = length_of(call / 3 % 3, job.pane_count);
-    let due = due_refusal(job, answers_length, group_length);
+    let due = due_of(job, answers_length, group_length);
     let called = call_place(file, before, answers_length, group_length);
     let result = called.result;
     let answers = called.answers;
     let group = called.group;
     match result {
         Placed::Refused { cause, offset } => {
-            let number = job_part::number_of(cause);
-            try_refusal(due, Refusal { number, offset }, before, answers, group)
-        }
-        Placed::ListTooShort => try_refusal(due, LIST_TOO_SHORT, before, answers, group),
-        Placed::Counts {
-            wanted,
-            placed,
-            group: group_count,
-        } => {
-            if due.number > 0 {
+            if !is_due(due, cause, offset) {
                 return Outcome::Wrong(Rule::Refusal);
             }
-            let counts = Counts {
-                wanted,
-                placed,
-                group: group_count,
-            };
+            try_refusal(cause, offset, before, answers, group)
+        }
+        Placed::Counts(counts) => {
+            if let Due::Refusal {
+                cause: _,
+                offset: _,
+            } = due {
+                return Outcome::Wrong(Rule::Refusal);
+            }
             check_result(job, counts, before, answers, group)
         }
     }
@@ -115,37 +105,44 @@ fn length_of(choice: usize, pane_count: usize) -> usize
     }
 }
 
-// The refusal that is due: the file's own, or else number 9 where a list is too short.
-fn due_refusal(job: Job, answers_length: usize, group_length: usize) -> Refusal {
-    let refusal = job.refusal;
-    if refusal.number > 0 {
-        return refusal;
+// What is due: the file's own refusal, or else one where a list is too short.
+fn due_of(job: Job, answers_length: usize, group_length: usize) -> Due {
+    let due = job.due;
+    if let Due::Counts = due {
+        if (answers_length < job.pane_count) | (group_length < job.pane_count) {
+            return Due::Refusal {
+                cause: Cause::ListTooShort,
+                offset: 0,
+            };
+        }
     }
-    if (answers_length < job.pane_count) | (group_length < job.pane_count) {
-        return LIST_TOO_SHORT;
-    }
-    refusal
+    due
 }
 
-// A refused call has the number and the offset that are due, and writes no list.
+// Whether a refusal is the one that is due.
+fn is_due(due: Due, cause: Cause, offset: usize) -> bool {
+    match due {
+        Due::Counts => false,
+        Due::Refusal {
+            cause: due_cause,
+            offset: due_offset,
+        } => (number_of(cause) == number_of(due_cause)) & (offset == due_offset),
+    }
+}
+
+// A refused call writes no list.
 fn try_refusal(
-    due: Refusal,
-    refusal: Refusal,
+    cause: Cause,
+    offset: usize,
     before: [u32; LONGEST],
     answers: [u32; LONGEST],
     group: [u32; LONGEST],
 ) -> Outcome {
-    if (refusal.number != due.number) | (refusal.offset != due.offset) {
-        return Outcome::Wrong(Rule::Refusal);
-    }
     if !is_same_from(0, before, answers) {
         return Outcome::Wrong(Rule::RefusedLists);
     }
     if !is_same_from(0, before, group) {
         return Outcome::Wrong(Rule::RefusedLists);
     }
-    Outcome::Refused {
-        number: refusal.number,
-        offset: refusal.offset,
-    }
+    Outcome::Refused { cause, offset }
 }

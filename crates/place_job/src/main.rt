@@ -11,9 +11,10 @@ mod lists;
 mod rules;
 mod words;
 
-use libc::STDOUT_FILENO;
+use job_tool::FileRead;
+use job_tool::write;
+use job_tool::write_number;
 use rules::Outcome;
-use words::write;
 use words::write_outcome;
 
 fn main() {
@@ -30,7 +31,7 @@ fn main() {
         i += 1;
         write_outcome(outcome);
         match outcome {
-            Outcome::NotOpened | Outcome::NotRead => {}
+            Outcome::Unread => {}
             Outcome::Wrong(_) => {
                 jobs += 1;
                 wrong += 1;
@@ -40,42 +41,24 @@ fn main() {
             }
         }
     }
-    io::print_decimal(STDOUT_FILENO, jobs);
+    write_number(jobs);
     write(b" jobs, ");
-    io::print_decimal(STDOUT_FILENO, wrong);
+    write_number(wrong);
     write(b" wrong\n");
 }
 
-// Tries the file that argument `i` names, and begins its line. A name that is too long for the buffer is too long to be opened
-// as well.
+// Tries the file that argument `i` names, and begins its line; where it is not opened or not read, writes the whole line.
 fn try_argument(i: usize) -> Outcome {
-    let mut name = io::buffer();
-    let length = os::arg(i, &mut name);
-    write(&name[..length]);
-    write(b": ");
-    let fd = os::open_read(&name[..length]);
-    if fd < 0 {
-        os::fail(&name[..length]);
-        return Outcome::NotOpened;
-    }
-    let outcome = try_open(fd);
-    libc::close(fd);
-    outcome
-}
-
-// Tries an open file. Reading stops where a file ends and also where it fails, as where the name is a folder's; one more read
-// tells which it was. Of a file that is too long one byte too many is read.
-fn try_open(fd: i32) -> Outcome {
     let mut file = io::large_buffer();
-    let n = io::read_full(fd, &mut file);
-    if !can_read(fd) {
-        return Outcome::NotRead;
+    let read = job_tool::read_argument(i, &mut file);
+    match read {
+        FileRead::Bytes(length) => {
+            job_tool::write_name(i);
+            calls::try_file(&file[..length])
+        }
+        _ => {
+            job_tool::write_unread(i, read);
+            Outcome::Unread
+        }
     }
-    calls::try_file(&file[..n])
-}
-
-// Whether a read of an open file succeeds, as it does at its end.
-fn can_read(fd: i32) -> bool {
-    let mut byte = [0u8; 1];
-    libc::read(fd, &mut byte) >= 0
 }

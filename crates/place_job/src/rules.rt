@@ -4,14 +4,16 @@ use crate::groups::check_full_group;
 use crate::groups::check_short_group;
 use crate::job::Job;
 use crate::lists::LONGEST;
+use causes::Cause;
+use row_placing::PlaceCounts;
 
 // What came of a file, or of a call with it: whether all panes were placed, a refusal, or the first rule that was found broken.
 pub(crate) enum Outcome {
-    NotOpened,
-    NotRead,
+    // the file was not opened or not read
+    Unread,
     Full,
     Short,
-    Refused { number: u32, offset: usize },
+    Refused { cause: Cause, offset: usize },
     Wrong(Rule),
 }
 
@@ -31,17 +33,10 @@ pub(crate) enum Rule {
     GroupSheets,
 }
 
-// The counts of a result.
-pub(crate) struct Counts {
-    pub(crate) wanted: usize,
-    pub(crate) placed: usize,
-    pub(crate) group: usize,
-}
-
 // Holds a result, and the lists that the call left, to the rules.
 pub(crate) fn check_result(
     job: Job,
-    counts: Counts,
+    counts: PlaceCounts,
     before: [u32; LONGEST],
     answers: [u32; LONGEST],
     group: [u32; LONGEST],

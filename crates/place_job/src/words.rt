@@ -1,26 +1,17 @@
-// What is written on standard output, the rest of a file's line; and what is said to people, on standard error.
+// The rest of a file's line, on standard output; and what is said to people, on standard error.
 use crate::rules::Outcome;
 use crate::rules::Rule;
-use libc::STDERR_FILENO;
-use libc::STDOUT_FILENO;
+use job_tool::write;
 
+// Nothing of a file that was not opened or not read: its line is whole.
 pub(crate) fn write_outcome(outcome: Outcome) {
     match outcome {
-        Outcome::NotOpened => write(b"not opened\n"),
-        Outcome::NotRead => write(b"not read\n"),
+        Outcome::Unread => {}
         Outcome::Full => write(b"full\n"),
         Outcome::Short => write(b"short\n"),
-        Outcome::Refused { number, offset } => write_refusal(number, offset),
+        Outcome::Refused { cause, offset } => job_tool::write_refusal(cause, offset),
         Outcome::Wrong(rule) => write_rule(rule),
     }
-}
-
-fn write_refusal(number: u32, offset: usize) {
-    write(b"refused ");
-    io::print_decimal(STDOUT_FILENO, number as u64);
-    write(b" ");
-    io::print_decimal(STDOUT_FILENO, offset as u64);
-    write(b"\n");
 }
 
 fn write_rule(rule: Rule) {
@@ -52,10 +43,6 @@ fn write_list_rule(rule: Rule) {
     }
 }
 
-pub(crate) fn write(text: &[u8]) {
-    io::write_all(STDOUT_FILENO, text);
-}
-
 pub(crate) fn say_usage() {
-    io::write_all(STDERR_FILENO, b"usage: place_job FILE..\n");
+    job_tool::say(b"usage: place_job FILE..\n");
 }

@@ -5,10 +5,10 @@ use Rattle.judge_job.proofs.judge_all.Statement.{statement}
 use Rattle.judge_job.proofs.judge_all.Tie as tie
 
 abbrev Inv-loop : tie.InvT-loop
-Inv-loop file name panes glasses i₀ i = Unit
+Inv-loop file name job i₀ i = Unit
 
 abbrev μ-loop : tie.MeasureT-loop
-μ-loop file name panes glasses i₀ i = 256 - i
+μ-loop file name job i₀ i = 256 - i
 
 pub judge-all-spec : {M : Type 1} → statement M
 judge-all-spec =
@@ -18,7 +18,6 @@ judge-all-spec =
     μ-loop
     (λ c κs. search needs)
     (λ c. search needs)
-    (λ c κs. search needs)
     (λ c κs. search needs)
     (λ c κs. search needs)
     (λ c. search needs)

@@ -5,10 +5,10 @@ use Rattle.judge_job.proofs.judge_row.Statement.{statement}
 use Rattle.judge_job.proofs.judge_row.Tie as tie
 
 abbrev Inv-loop : tie.InvT-loop
-Inv-loop file name pane glasses i₀ i = Unit
+Inv-loop file name pane job i₀ i = Unit
 
 abbrev μ-loop : tie.MeasureT-loop
-μ-loop file name pane glasses i₀ i = 64 - i
+μ-loop file name pane job i₀ i = 64 - i
 
 pub judge-row-spec : {M : Type 1} → statement M
 judge-row-spec =

@@ -5,11 +5,11 @@ use Rattle.place_job.proofs.job.read_entries.Statement.{statement}
 use Rattle.place_job.proofs.job.read_entries.Tie as tie
 
 abbrev Inv-loop : tie.InvT-loop
-Inv-loop file refusal pane-count panes glasses pane-ids₀ glass-ids₀ stocks₀ passes₀ i₀ pane-ids glass-ids stocks passes i =
+Inv-loop file due job pane-ids₀ glass-ids₀ stocks₀ passes₀ i₀ pane-ids glass-ids stocks passes i =
     Unit
 
 abbrev μ-loop : tie.MeasureT-loop
-μ-loop file refusal pane-count panes glasses pane-ids₀ glass-ids₀ stocks₀ passes₀ i₀ pane-ids glass-ids stocks passes i =
+μ-loop file due job pane-ids₀ glass-ids₀ stocks₀ passes₀ i₀ pane-ids glass-ids stocks passes i =
     16384 - i
 
 pub read-entries-spec : {M : Type 1} → statement M

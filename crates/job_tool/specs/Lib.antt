@@ -1,0 +1,2 @@
+-- What reading a file promises.
+pub mod Leaves
