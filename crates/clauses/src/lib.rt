@@ -35,15 +35,14 @@ pub enum Answer {
 pub fn verdict(file: &[u8], pane: u32, glass: u32) -> Answer
     ensures { λ r. ⌜ says r ≡ answerOf (outcomeOf (now (file .entry))) pane glass ⌝ }
 {
-    let reading = read_job(file);
-    let checked = reading.checked;
+    let job = read_job(file);
+    let checked = job.checked;
     match checked {
         Checked::Refused { cause, offset } => Answer::Refused { cause, offset },
         Checked::Accepted {
             glass_count: _,
             pane_count: _,
         } => {
-            let job = reading.job;
             match find_pair(numbers_of(job), pane, glass) {
                 PairPlace::Unknown(cause) => Answer::Refused { cause, offset: 0 },
                 PairPlace::Both(p, g) => {

@@ -4,9 +4,9 @@
 --     file-short, file-over                         cause 1
 --     file-trailer, file-order, file-beyond         causes 2 and 3
 --     file-parts                                    none of them
---     reads-whole                                   two parts that were read whole
+--     job-whole                                     two parts that were read whole
 use Prim.Native.Nat.{ℕ, _+_, _-_, _≤_, _<_}
-use mathlib.Core.Path.{_≡_, ap₂, sym}
+use mathlib.Core.Path.{_≡_, sym}
 use mathlib.Core.List.{List}
 use native.Mathlib.Omega.{arith}
 use lib.ListN.{length, take, drop, length-take, length-drop, take-append-drop}
@@ -21,7 +21,7 @@ use Rattle.job_file.specs.File.{part, trailer, offsets, noTrailer, accep
 use Rattle.job_glass.specs.GlassLine.{blankGlass}
 use Rattle.job_pane.specs.PaneLine.{blankPane}
 use Rattle.job_part.specs.Arrays.{padded}
-use Rattle.job_file.specs.Answer.{accepts, Reads}
+use Rattle.job_file.specs.Job.{jobOf}
 use Rattle.job_part.specs.Arrays.{PartWhole}
 use Rattle.job_glass.specs.declared.Glass.{Glass}
 use Rattle.job_pane.specs.declared.Pane.{Pane}
@@ -86,15 +86,13 @@ module _ {A : Type 0} (size : ℕ) (blank : A) (d : Lines A) (xs : List A) (n : 
   padded-whole : xs ≡ padded size blank (take n xs)
   padded-whole = rw (← count-whole, ← w .blanks) (sym (take-append-drop n xs))
 
-pub reads-whole : (dg : Lines Glass) (dp : Lines Pane) (gs : List Glass) (ps : List Pane) (n m : ℕ)
+pub job-whole : (dg : Lines Glass) (dp : Lines Pane) (gs : List Glass) (ps : List Pane) (n m : ℕ)
     → PartWhole 64 blankGlass dg gs n → PartWhole 256 blankPane dp ps m
-    → Reads (accepted (take n gs) (take m ps)) (record {
-      checked = Accepted n m;
-      job = record { glasses = gs; «glass_count» = n; panes = ps; «pane_count» = m };
-    })
-reads-whole dg dp gs ps n m g p =
+    → record { checked = Accepted n m; glasses = gs; «glass_count» = n; panes = ps; «pane_count» = m }
+    ≡ jobOf (take n gs) (take m ps)
+job-whole dg dp gs ps n m g p =
     let glasses = count-whole 64 blankGlass dg gs n g in
     let panes = count-whole 256 blankPane dp ps m p in
     let glassArray = padded-whole 64 blankGlass dg gs n g in
     let paneArray = padded-whole 256 blankPane dp ps m p in
-    record { answer = ap₂ accepts glasses panes; job = cc }
+    cc

@@ -1,4 +1,5 @@
 -- What a caller of `read_job` knows of its answer, and of the job where the file is accepted.
+--     says-in                     what its check says
 --     JobOf, job-read             an accepted file: its lists are those of the job, which keeps the rules
 --     refusal-read                a refused file: the cause and its offset
 --     glass-count, pane-count     the counts of a job are the lengths of its lists
@@ -14,9 +15,7 @@ use native.Mathlib.Omega.{arith}
 use lib.ListN.{length, take, length-append, length-replicate, length-map}
 use lib.Seq.{take-at, getD-take}
 use Rattle.basics.proofs.Tests.{clash}
-use Rattle.causes.specs.Cause.{numberOf}
 use Rattle.causes.specs.declared.Cause.{Cause}
-use Rattle.causes.proofs.Numbers.{same-cause}
 use Rattle.job_part.specs.Arrays.{padded}
 use Rattle.job_glass.specs.GlassLine.{blankGlass}
 use Rattle.job_glass.specs.Values.{GlassValues}
@@ -26,12 +25,11 @@ use Rattle.job_pane.specs.Values.{PaneValues}
 use Rattle.job_pane.specs.declared.Pane.{Pane}
 use Rattle.job_file.specs.File.{Outcome, accepted, refused, outcomeOf}
 use Rattle.job_file.specs.Job.{jobOf, glassesOf, panesOf, glassAt, paneAt, glassIdsOf, paneIdsOf, numbersOf}
-use Rattle.job_file.specs.Answer.{refuses, says, answerOf, Reads}
+use Rattle.job_file.specs.Answer.{says, answerOf, jobIn}
 use Rattle.job_file.specs.Rules.{ReadJob}
 use Rattle.job_file.specs.declared.job.Job.{Job}
 use Rattle.job_file.specs.declared.job.JobNumbers.{JobNumbers}
 use Rattle.job_file.specs.declared.Checked.the-variants.{Accepted, Refused}
-use Rattle.job_file.specs.declared.Reading.{Reading}
 use Rattle.job_file.proofs.Accepted.{accepted-rules, glass-values, pane-values}
 
 padded-long : {A : Type 0} (size : ℕ) (blank : A) (xs : List A) → length xs ≤ size → length (padded size blank xs) ≡ size
@@ -49,33 +47,36 @@ job-lists job gs ps is = (
   rw is (take-at ps _ (length ps) refl),
 )
 
+-- What a check says of a file that was read.
+pub says-in : (o : Outcome) → says (jobIn o .checked) ≡ answerOf o
+says-in (accepted gs ps) = refl
+says-in (refused cause offset) = refl
+
 pub job-read :
-    (file : List ℕ) (r : Reading) (n m : ℕ) → Reads (outcomeOf file) r → r .checked ≡ Accepted n m → JobOf file (r .job)
-job-read file r n m reads case = go (outcomeOf file) refl reads
+    (file : List ℕ) (job : Job) (n m : ℕ) → job ≡ jobIn (outcomeOf file) → job .checked ≡ Accepted n m → JobOf file job
+job-read file job n m reads case = go (outcomeOf file) refl reads
   where
-    go : (o : Outcome) → outcomeOf file ≡ o → Reads o r → JobOf file (r .job)
+    go : (o : Outcome) → outcomeOf file ≡ o → job ≡ jobIn o → JobOf file job
     go (accepted gs ps) is reads =
-        let lists = job-lists (r .job) gs ps (reads .job) in
+        let lists = job-lists job gs ps reads in
         record {
           outcome = rw (lists .0, lists .1) is;
           read = record {
             rules = rw (lists .0, lists .1) (accepted-rules file gs ps is);
-            is-job = rw (lists .0, lists .1) (reads .job);
+            is-job = rw (lists .0, lists .1) reads;
           };
         }
-    go (refused cause at) is reads = let answer = ap says (sym case) ∙ reads .answer in clash (cc)
+    go (refused cause at) is reads = let other = sym case ∙ ap (λ (j : Job). j .checked) reads in clash (cc)
 
 pub refusal-read :
-    (file : List ℕ) (r : Reading) (cause : Cause) (offset : ℕ) →
-    Reads (outcomeOf file) r → r .checked ≡ Refused cause offset → outcomeOf file ≡ refused cause offset
-refusal-read file r cause offset reads case = go (outcomeOf file) (ap says (sym case) ∙ reads .answer)
+    (file : List ℕ) (job : Job) (cause : Cause) (offset : ℕ) →
+    job ≡ jobIn (outcomeOf file) → job .checked ≡ Refused cause offset → outcomeOf file ≡ refused cause offset
+refusal-read file job cause offset reads case =
+    go (outcomeOf file) (sym case ∙ ap (λ (j : Job). j .checked) reads)
   where
-    go : (o : Outcome) → refuses (numberOf cause) offset ≡ answerOf o → o ≡ refused cause offset
+    go : (o : Outcome) → Refused cause offset ≡ jobIn o .checked → o ≡ refused cause offset
     go (accepted gs ps) e = clash (cc)
-    go (refused other at) e =
-        let numbers : numberOf cause ≡ numberOf other = cc in
-        let same = same-cause cause other numbers in
-        cc
+    go (refused other at) e = cc
 
 module _ (job : Job) (r : ReadJob job) where
   pub glass-count : job .«glass_count» ≡ length (glassesOf job)

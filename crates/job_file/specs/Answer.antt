@@ -1,15 +1,13 @@
 -- Document 01, "What each cause gives": the number and the values of each case of the reader's answers.
 use Prim.Native.Nat.{ℕ}
-use mathlib.Core.Path.{_≡_}
 use mathlib.Core.List.{[]}
 use lib.ListN.{length}
 use Rattle.causes.specs.Cause.{numberOf}
 use Rattle.job_file.specs.File.{Outcome, accepted, refused}
-use Rattle.job_file.specs.Job.{jobOf}
+use Rattle.job_file.specs.Job.{jobWith, jobOf}
 use Rattle.job_file.specs.declared.job.Job.{Job}
 use Rattle.job_file.specs.declared.Checked.{Checked}
 use Rattle.job_file.specs.declared.Checked.the-variants.{Accepted, Refused}
-use Rattle.job_file.specs.declared.Reading.{Reading}
 
 -- The answer of a check, in numbers: "The check of an accepted file gives its number of glasses and its number of panes." A
 -- refusal gives the cause's number and offset.
@@ -27,12 +25,7 @@ abbrev pub answerOf : Outcome → Answer
 answerOf (accepted glasses panes) = accepts (length glasses) (length panes)
 answerOf (refused cause offset) = refuses (numberOf cause) offset
 
--- The job that a file should have: of a refused file, one with no glass and no pane.
+-- What reading a file should give: of a refused file, no glass and no pane.
 abbrev pub jobIn : Outcome → Job
 jobIn (accepted glasses panes) = jobOf glasses panes
-jobIn (refused cause offset) = jobOf [] []
-
--- What reading gives: the answer and the job.
-pub record Reads (outcome : Outcome) (r : Reading) : Type 0 where
-  pub answer : says (r .checked) ≡ answerOf outcome
-  pub job : r .job ≡ jobIn outcome
+jobIn (refused cause offset) = jobWith (Refused cause offset) [] []

@@ -1,5 +1,5 @@
--- A job as a value: the glasses and the panes of a file, in file order at the front of two arrays of fixed size, and how many
--- there are of each.
+-- A job file as a value: what its check says, and its glasses and panes, in file order at the front of two arrays of fixed size,
+-- with how many there are of each.
 use Prim.Native.Nat.{ℕ}
 use mathlib.Core.List.{List, map}
 use lib.ListN.{length, getD, take}
@@ -8,17 +8,24 @@ use Rattle.job_glass.specs.GlassLine.{blankGlass}
 use Rattle.job_glass.specs.declared.Glass.{Glass}
 use Rattle.job_pane.specs.PaneLine.{blankPane}
 use Rattle.job_pane.specs.declared.Pane.{Pane}
+use Rattle.job_file.specs.declared.Checked.{Checked}
+use Rattle.job_file.specs.declared.Checked.the-variants.{Accepted}
 use Rattle.job_file.specs.declared.job.Job.{Job}
 use Rattle.job_file.specs.declared.job.JobNumbers.{JobNumbers}
 
--- The job of these glasses and panes, with blanks behind them.
-abbrev pub jobOf : List Glass → List Pane → Job
-jobOf glasses panes = record {
+-- A file whose check says this, with these glasses and panes and blanks behind them.
+abbrev pub jobWith : Checked → List Glass → List Pane → Job
+jobWith checked glasses panes = record {
+  checked = checked;
   glasses = padded 64 blankGlass glasses;
   «glass_count» = length glasses;
   panes = padded 256 blankPane panes;
   «pane_count» = length panes;
 }
+
+-- An accepted file with these glasses and panes.
+abbrev pub jobOf : List Glass → List Pane → Job
+jobOf glasses panes = jobWith (Accepted (length glasses) (length panes)) glasses panes
 
 -- The glasses and the panes of a job.
 abbrev pub glassesOf : Job → List Glass

@@ -1,23 +1,23 @@
 // The whole file: specs/File.antt.
 use crate::Checked;
-use crate::Reading;
 use crate::job::Job;
 use crate::trailer::Offsets;
 use crate::trailer::read_trailer;
+use causes::Cause;
 use job_glass::NO_GLASS;
 use job_glass::read_glasses;
 use job_pane::NO_PANE;
 use job_pane::read_panes;
-use causes::Cause;
 use job_part::PartEnd;
+ghost use mathlib.Core.Path.{_≡_};
 ghost use Prim.Native.Nat.{_≤_};
 ghost use lib.ListN.{length};
 ghost use Rattle.job_file.specs.File.{outcomeOf, partsOutcome, refused};
-ghost use Rattle.job_file.specs.Answer.{Reads};
+ghost use Rattle.job_file.specs.Answer.{jobIn};
 
 // The job of a file, or the first cause against it.
-pub fn read_job(file: &[u8]) -> Reading
-    ensures { λ r. ⌜ Reads (outcomeOf (now (file .entry))) r ⌝ }
+pub fn read_job(file: &[u8]) -> Job
+    ensures { λ r. ⌜ r ≡ jobIn (outcomeOf (now (file .entry))) ⌝ }
 {
     let length = file.len();
     if length < 14 {
@@ -42,9 +42,9 @@ pub fn read_job(file: &[u8]) -> Reading
 }
 
 // The glass part from `glass` to `pane`, then the pane part from `pane` to `end`.
-fn read_parts(file: &[u8], glass: usize, pane: usize, end: usize) -> Reading
+fn read_parts(file: &[u8], glass: usize, pane: usize, end: usize) -> Job
     requires { ⌜ (glass ≤ pane) × (pane ≤ end) × (end ≤ length (now file)) × (end ≤ 65535) ⌝ }
-    ensures { λ r. ⌜ Reads (partsOutcome (now (file .entry)) glass pane end) r ⌝ }
+    ensures { λ r. ⌜ r ≡ jobIn (partsOutcome (now (file .entry)) glass pane end) ⌝ }
 {
     let first = read_glasses(&file[glass..pane], glass);
     let first_end = first.end;
@@ -58,18 +58,15 @@ fn read_parts(file: &[u8], glass: usize, pane: usize, end: usize) -> Reading
                 PartEnd::Whole(pane_count) => {
                     let glasses = first.glasses;
                     let panes = second.panes;
-                    let job = Job {
-                        glasses,
-                        glass_count,
-                        panes,
-                        pane_count,
-                    };
-                    Reading {
+                    Job {
                         checked: Checked::Accepted {
                             glass_count,
                             pane_count,
                         },
-                        job,
+                        glasses,
+                        glass_count,
+                        panes,
+                        pane_count,
                     }
                 }
             }
@@ -78,19 +75,16 @@ fn read_parts(file: &[u8], glass: usize, pane: usize, end: usize) -> Reading
 }
 
 // What is read of a refused file: the cause and its offset.
-fn refusal(cause: Cause, offset: usize) -> Reading
-    ensures { λ r. ⌜ Reads (refused cause offset) r ⌝ }
+fn refusal(cause: Cause, offset: usize) -> Job
+    ensures { λ r. ⌜ r ≡ jobIn (refused cause offset) ⌝ }
 {
     let glasses = [NO_GLASS; 64];
     let panes = [NO_PANE; 256];
-    let job = Job {
+    Job {
+        checked: Checked::Refused { cause, offset },
         glasses,
         glass_count: 0,
         panes,
         pane_count: 0,
-    };
-    Reading {
-        checked: Checked::Refused { cause, offset },
-        job,
     }
 }

@@ -1,12 +1,15 @@
 // A job as a value, and the numbers that the layers above take of it: specs/Job.antt.
+use crate::Checked;
 use job_glass::Glass;
 use job_pane::Pane;
 ghost use mathlib.Core.Path.{_≡_};
 ghost use Rattle.job_file.specs.Job.{glassesOf, panesOf, numbersOf};
 ghost use Rattle.job_file.specs.Rules.{ReadJob};
 
-// The glasses and the panes of a file, in file order at the front of their arrays; every other entry is of zeros.
+// A job file that was read: what its check says, and its glasses and panes in file order at the front of their arrays. Every
+// other entry is of zeros. A refused file has no glass and no pane.
 pub struct Job {
+    pub checked: Checked,
     pub glasses: [Glass; 64],
     pub glass_count: usize,
     pub panes: [Pane; 256],

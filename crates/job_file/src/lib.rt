@@ -1,6 +1,6 @@
 // The reader of a job file: document 01, "The job file" and "What each cause gives".
 //
-// `check` says whether a file is accepted, and `read_job` gives its job too. Both answer for every list of bytes, as
+// `check` says whether a file is accepted, and `read_job` gives its glasses and panes too. Both answer for every list of bytes, as
 // specs/File.antt defines.
 mod file;
 mod job;
@@ -17,14 +17,14 @@ ghost use Rattle.job_file.specs.Answer.{says, answerOf};
 
 // The answer to a check: how many glasses and panes the file has, or why and where it is refused.
 pub enum Checked {
-    Accepted { glass_count: usize, pane_count: usize },
-    Refused { cause: Cause, offset: usize },
-}
-
-// A file that was read: the answer to its check, and its job, which has no glass and no pane where the file is refused.
-pub struct Reading {
-    pub checked: Checked,
-    pub job: Job,
+    Accepted {
+        glass_count: usize,
+        pane_count: usize,
+    },
+    Refused {
+        cause: Cause,
+        offset: usize,
+    },
 }
 
 // Whether a file is accepted.

@@ -1,12 +1,12 @@
 // The glass part: specs/GlassLine.antt, and specs/Part.antt of job_part.
 use crate::Glass;
 use crate::GlassPart;
-use job_line::LineEnd;
-use job_line::read_line;
 use causes::Cause;
-use job_part::PartEnd;
 use ids::is_seen;
 use ids::mark;
+use job_line::LineEnd;
+use job_line::read_line;
+use job_part::PartEnd;
 ghost use mathlib.Core.Path.{_≡_};
 ghost use mathlib.Core.List.{List};
 ghost use Prim.Native.Nat.{ℕ, _+_, _≤_};

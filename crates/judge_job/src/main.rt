@@ -88,8 +88,8 @@ fn judge_pair(file: &[u8], name: usize, pane: usize, glass: usize, is_single: bo
 
 // Answers for every pane of a file with every glass, in file order.
 fn judge_all(file: &[u8], name: usize) {
-    let reading = job_file::read_job(file);
-    let checked = reading.checked;
+    let job = job_file::read_job(file);
+    let checked = job.checked;
     match checked {
         Checked::Refused { cause, offset } => {
             write_name(name);
@@ -99,7 +99,6 @@ fn judge_all(file: &[u8], name: usize) {
             glass_count: _,
             pane_count: _,
         } => {
-            let job = reading.job;
             let mut i = 0;
             while i < 256 {
                 let pane = job.panes[i];

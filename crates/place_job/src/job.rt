@@ -23,9 +23,8 @@ pub(crate) struct Job {
 }
 
 pub(crate) fn job_of(file: &[u8]) -> Job {
-    let reading = job_file::read_job(file);
-    let checked = reading.checked;
-    let job = reading.job;
+    let job = job_file::read_job(file);
+    let checked = job.checked;
     match checked {
         Checked::Refused { cause, offset } => {
             read_entries(file, Due::Refusal { cause, offset }, job)

@@ -71,85 +71,85 @@ module _ (job : Job) (read : ReadJob job) where
       (numbers : JobNumbers) (are : numbers ≡ numbersOf (glassesOf job) (panesOf job))
       (r : PlaceCounts) (answers group : Lent) (g : Glazed schedule r answers group)
     where
-    as-many : length (schedule .panes) ≡ numbers .«pane_count»
-    as-many = length-map (panesOf job) (λ x. x .id) ∙ ap (λ (n : JobNumbers). n .«pane_count») (sym are)
+      as-many : length (schedule .panes) ≡ numbers .«pane_count»
+      as-many = length-map (panesOf job) (λ x. x .id) ∙ ap (λ (n : JobNumbers). n .«pane_count») (sym are)
 
-    most : numbers .«pane_count» ≤ 256
-    most = omega (arith, as-many-panes job read numbers are, few-panes job read)
+      most : numbers .«pane_count» ≤ 256
+      most = omega (arith, as-many-panes job read numbers are, few-panes job read)
 
-    ids-are : take (numbers .«pane_count») (numbers .«pane_ids») ≡ schedule .panes
-    ids-are = pane-ids-lent numbers (glassesOf job) (panesOf job) are
+      ids-are : take (numbers .«pane_count») (numbers .«pane_ids») ≡ schedule .panes
+      ids-are = pane-ids-lent numbers (glassesOf job) (panesOf job) are
 
-    -- The answers are the ids of the placing, and the group its group.
-    answers-long : length (g .ids) ≡ numbers .«pane_count»
-    answers-long = g .glazing .placing .one-each ∙ as-many
+      -- The answers are the ids of the placing, and the group its group.
+      answers-long : length (g .ids) ≡ numbers .«pane_count»
+      answers-long = g .glazing .placing .one-each ∙ as-many
 
-    answers-are : take (numbers .«pane_count») (answers .after) ≡ g .ids
-    answers-are = subst (λ (n : ℕ). take n (answers .after) ≡ g .ids) answers-long (g .answers-written .front)
+      answers-are : take (numbers .«pane_count») (answers .after) ≡ g .ids
+      answers-are = subst (λ (n : ℕ). take n (answers .after) ≡ g .ids) answers-long (g .answers-written .front)
 
-    listed-are : take (r .group) (group .after) ≡ g .group-ids
-    listed-are = rw (g .group-is) (g .group-written .front)
+      listed-are : take (r .group) (group .after) ≡ g .group-ids
+      listed-are = rw (g .group-is) (g .group-written .front)
 
-    pub listed-fits : r .group ≤ length (group .after)
-    listed-fits =
-        omega (
-          arith,
-          g .group-is,
-          min-le-right (r .group) (length (group .after)),
-          length-take (r .group) (group .after),
-          ap length listed-are,
-        )
-
-    -- An answer is 0 or the id of a glass; the group has ids of panes, or none where all are placed.
-    answer-short : FourDigits (g .ids)
-    answer-short k l = go (g .glazing .placing .passing k (omega (arith, g .glazing .placing .one-each)))
-      where
-        go : (getD (g .ids) k 0 ≡ 0) ⊎ PassingId schedule k (getD (g .ids) k 0) → getD (g .ids) k 0 ≤ 9999
-        go (inl e) = omega (arith, e)
-        go (inr p) = omega (arith, p .is-id, glass-short (p .place) (p .within))
-
-    group-short : FourDigits (g .group-ids)
-    group-short = go (same-or-not (r .placed) (length (schedule .panes)))
-      where
-        of-panes : ShortGroup schedule (g .group-ids) → FourDigits (g .group-ids)
-        of-panes s k l = let p = s .of-panes k l in omega (arith, p .is-id, pane-short (p .place) (p .within))
-
-        go :
-            (r .placed ≡ length (schedule .panes)) ⊎ (r .placed ≡ length (schedule .panes) → ⊥) → FourDigits (g .group-ids)
-        go (inl all) = λ k l. absurd (omega (arith, ap length (g .glazing .if-equal all)))
-        go (inr less) = of-panes (g .glazing .if-less less)
-
-    pub printable :
-        Answers (take (numbers .«pane_count») (numbers .«pane_ids»)) (take (numbers .«pane_count») (answers .after))
-        × FourDigits (take (r .group) (group .after)) × (r .placed ≤ 256)
-    printable =
-        rw (ids-are, answers-are, listed-are) (
-          record {
-            one-each = g .glazing .placing .one-each;
-            few = omega (arith, answers-long, most);
-            answers-short = answer-short;
-            ids-short = pane-short;
-          },
-          group-short,
+      pub listed-fits : r .group ≤ length (group .after)
+      listed-fits =
           omega (
             arith,
-            g .glazing .placed-is,
-            nonzero-le (g .ids) (numbers .«pane_count») answers-long,
-            most,
-          ),
-        )
+            g .group-is,
+            min-le-right (r .group) (length (group .after)),
+            length-take (r .group) (group .after),
+            ap length listed-are,
+          )
 
-    pub printed :
-        (o : Outcome) → o ≡ accepted (glassesOf job) (panesOf job) →
-        TextOf o
-        (placingText (take (numbers .«pane_count») (numbers .«pane_ids»)) (take (numbers .«pane_count») (answers .after))
-        (length (take (numbers .«pane_count») (answers .after))) (r .placed) (take (r .group) (group .after)))
-    printed o is =
-        rw is
-        (record {
-          ids = g .ids;
-          group = g .group-ids;
-          placed = r .placed;
-          glazing = g .glazing;
-          is-text = rw (ids-are, answers-are, listed-are, g .glazing .placing .one-each, length-map);
-        })
+      -- An answer is 0 or the id of a glass; the group has ids of panes, or none where all are placed.
+      answer-short : FourDigits (g .ids)
+      answer-short k l = go (g .glazing .placing .passing k (omega (arith, g .glazing .placing .one-each)))
+        where
+          go : (getD (g .ids) k 0 ≡ 0) ⊎ PassingId schedule k (getD (g .ids) k 0) → getD (g .ids) k 0 ≤ 9999
+          go (inl e) = omega (arith, e)
+          go (inr p) = omega (arith, p .is-id, glass-short (p .place) (p .within))
+
+      group-short : FourDigits (g .group-ids)
+      group-short = go (same-or-not (r .placed) (length (schedule .panes)))
+        where
+          of-panes : ShortGroup schedule (g .group-ids) → FourDigits (g .group-ids)
+          of-panes s k l = let p = s .of-panes k l in omega (arith, p .is-id, pane-short (p .place) (p .within))
+
+          go :
+              (r .placed ≡ length (schedule .panes)) ⊎ (r .placed ≡ length (schedule .panes) → ⊥) → FourDigits (g .group-ids)
+          go (inl all) = λ k l. absurd (omega (arith, ap length (g .glazing .if-equal all)))
+          go (inr less) = of-panes (g .glazing .if-less less)
+
+      pub printable :
+          Answers (take (numbers .«pane_count») (numbers .«pane_ids»)) (take (numbers .«pane_count») (answers .after))
+          × FourDigits (take (r .group) (group .after)) × (r .placed ≤ 256)
+      printable =
+          rw (ids-are, answers-are, listed-are) (
+            record {
+              one-each = g .glazing .placing .one-each;
+              few = omega (arith, answers-long, most);
+              answers-short = answer-short;
+              ids-short = pane-short;
+            },
+            group-short,
+            omega (
+              arith,
+              g .glazing .placed-is,
+              nonzero-le (g .ids) (numbers .«pane_count») answers-long,
+              most,
+            ),
+          )
+
+      pub printed :
+          (o : Outcome) → o ≡ accepted (glassesOf job) (panesOf job) →
+          TextOf o
+          (placingText (take (numbers .«pane_count») (numbers .«pane_ids»)) (take (numbers .«pane_count») (answers .after))
+          (length (take (numbers .«pane_count») (answers .after))) (r .placed) (take (r .group) (group .after)))
+      printed o is =
+          rw is
+          (record {
+            ids = g .ids;
+            group = g .group-ids;
+            placed = r .placed;
+            glazing = g .glazing;
+            is-text = rw (ids-are, answers-are, listed-are, g .glazing .placing .one-each, length-map);
+          })

@@ -5,10 +5,10 @@ mod line;
 mod number;
 mod text;
 
+use causes::number_of;
 use job_file::Checked;
 use job_file::numbers_of;
 use job_file::read_job;
-use causes::number_of;
 use placing::place_panes;
 use text::write_placing;
 use text::write_refusal;
@@ -20,15 +20,14 @@ ghost use Rattle.report.specs.Promise.{Reported};
 pub fn report(file: &[u8], text: &mut [u8; 4096]) -> usize
     ensures { λ r. ⌜ Reported (outcomeOf (now (file .entry))) (now (text .entry)) (now (text .exit)) r ⌝ }
 {
-    let reading = read_job(file);
-    let checked = reading.checked;
+    let job = read_job(file);
+    let checked = job.checked;
     match checked {
         Checked::Refused { cause, offset } => write_refusal(number_of(cause), offset, text),
         Checked::Accepted {
             glass_count: _,
             pane_count: _,
         } => {
-            let job = reading.job;
             let numbers = numbers_of(job);
             let ids = numbers.pane_ids;
             let count = numbers.pane_count;

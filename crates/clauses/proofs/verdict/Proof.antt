@@ -20,19 +20,19 @@ use Rattle.clauses.proofs.verdict.Statement.{statement}
 use Rattle.clauses.proofs.verdict.Tie as tie
 
 -- The job that was read.
-abbrev read : tie.After-job → tie.After-read-job
-read k = k .before .before .before
+abbrev read : tie.After-enum-told → tie.After-read-job
+read k = k .before .before
 
-abbrev start : tie.After-job → tie.Start
+abbrev start : tie.After-enum-told → tie.Start
 start k = read k .before .before
 
-abbrev job : tie.After-job → Job
-job k = read k .read-job .result .job
+abbrev job : tie.After-enum-told → Job
+job k = read k .read-job .result
 
-is-job : (k : tie.After-job) → JobOf (now (start k .args .file)) (job k)
+is-job : (k : tie.After-enum-told) → JobOf (now (start k .args .file)) (job k)
 is-job k =
     let r = read k in
-    job-read (now (start k .args .file)) (r .read-job .result) _ _ (r .read-job .ensures) (k .before .enum-told .given .1)
+    job-read (now (start k .args .file)) (r .read-job .result) _ _ (r .read-job .ensures) (k .enum-told .given .1)
 
 -- What was found of the two ids.
 pair-is :
@@ -42,11 +42,11 @@ pair-is :
     ≡ pairOf (glassIdsOf (glassesOf (job k))) (paneIdsOf (panesOf (job k))) (start k .args .pane) (start k .args .glass)
 pair-is f =
     let n = f .before in
-    let k = n .before in
-    f .find-pair .ensures
-    ∙ ap₂ (λ glasses panes. pairOf glasses panes (start k .args .pane) (start k .args .glass))
-    (glass-ids-lent (n .numbers-of .result) (glassesOf (job k)) (panesOf (job k)) (n .numbers-of .ensures))
-    (pane-ids-lent (n .numbers-of .result) (glassesOf (job k)) (panesOf (job k)) (n .numbers-of .ensures))
+    let gs = glassesOf (job (n .before)) in
+    let ps = panesOf (job (n .before)) in
+    let is = n .numbers-of .ensures in
+    rw (glass-ids-lent (n .numbers-of .result) gs ps is, pane-ids-lent (n .numbers-of .result) gs ps is)
+    at (f .find-pair .ensures)
 
 -- The answer of an accepted file.
 answer-is :

@@ -20,26 +20,26 @@ use Rattle.placing.proofs.place.Tie as tie
 abbrev start : tie.After-read-job → tie.Start
 start r = r .before .before .before .before
 
-abbrev read : tie.After-job → tie.After-read-job
-read k = k .before .before .before
+abbrev read : tie.After-enum-told → tie.After-read-job
+read k = k .before .before
 
-job : (k : tie.After-job) → let r = read k in JobOf (now (start r .args .file)) (r .read-job .result .job)
+job : (k : tie.After-enum-told) → let r = read k in JobOf (now (start r .args .file)) (r .read-job .result)
 job k =
     let r = read k in
-    job-read (now (start r .args .file)) (r .read-job .result) _ _ (r .read-job .ensures) (k .before .enum-told .given .1)
+    job-read (now (start r .args .file)) (r .read-job .result) _ _ (r .read-job .ensures) (k .enum-told .given .1)
 
 -- What the test says of the panes of the file.
 test-is :
-    (k : tie.After-job) (b : Bool) →
+    (k : tie.After-enum-told) (b : Bool) →
     let a = start (read k) .args in
-    let count = read k .read-job .result .job .«pane_count» in
+    let count = read k .read-job .result .«pane_count» in
     (ltb (length (now (a .answers))) count || ltb (length (now (a .group))) count) ≡ b →
-    let panes = length (panesOf (read k .read-job .result .job)) in
+    let panes = length (panesOf (read k .read-job .result)) in
     (ltb (length (now (a .answers))) panes || ltb (length (now (a .group))) panes) ≡ b
 test-is k b e =
     let a = start (read k) .args in
     subst (λ (n : ℕ). (ltb (length (now (a .answers))) n || ltb (length (now (a .group))) n) ≡ b)
-    (pane-count (read k .read-job .result .job) (job k .read)) e
+    (pane-count (read k .read-job .result) (job k .read)) e
 
 too-short : tie.Need-returns
 too-short c =

@@ -19,18 +19,18 @@ use Rattle.report.proofs.report.Statement.{statement}
 use Rattle.report.proofs.report.Tie as tie
 
 -- The job that was read.
-abbrev read : tie.After-job → tie.After-read-job
-read k = k .before .before .before
+abbrev read : tie.After-enum-told → tie.After-read-job
+read k = k .before .before
 
-abbrev job : tie.After-job → Job
-job k = read k .read-job .result .job
+abbrev job : tie.After-enum-told → Job
+job k = read k .read-job .result
 
-is-job : (k : tie.After-job) → JobOf (now (read k .before .before .args .file)) (job k)
+is-job : (k : tie.After-enum-told) → JobOf (now (read k .before .before .args .file)) (job k)
 is-job k =
     let r = read k in
-    job-read (now (r .before .before .args .file)) (r .read-job .result) _ _ (r .read-job .ensures) (k .before .enum-told .given .1)
+    job-read (now (r .before .before .args .file)) (r .read-job .result) _ _ (r .read-job .ensures) (k .enum-told .given .1)
 
-most : (k : tie.After-job) → job k .«pane_count» ≤ 256
+most : (k : tie.After-enum-told) → job k .«pane_count» ≤ 256
 most k = few-panes (job k) (is-job k .read)
 
 -- The refusal that was read, of a number and an offset that are written whole.

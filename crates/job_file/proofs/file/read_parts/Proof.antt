@@ -6,7 +6,7 @@ use mathlib.Core.Path.{_≡_}
 use lib.ListN.{length}
 use denote.Ref.{now}
 use Rattle.job_file.specs.File.{part}
-use Rattle.job_file.proofs.Files.{part-end, parts-glass, parts-pane, parts-whole, reads-whole}
+use Rattle.job_file.proofs.Files.{part-end, parts-glass, parts-pane, parts-whole, job-whole}
 use Rattle.job_file.proofs.file.read_parts.Statement.{statement}
 use Rattle.job_file.proofs.file.read_parts.Tie as tie
 
@@ -53,7 +53,7 @@ whole c =
     let first = rw (glass-end s, k₁ .first-end2 .given .1) at (r₁ .read-glasses .ensures) in
     let second = rw (pane-end s, k .second-end2 .given .1) at (r .read-panes .ensures) in
     rw (parts-whole (now (a .file)) (a .glass) (a .pane) (a .end) _ (first .entries) _ (second .entries))
-    (reads-whole _ _ _ _ _ _ first second)
+    (job-whole _ _ _ _ _ _ first second)
 
 pub read-parts-spec : {M : Type 1} → statement M
 read-parts-spec =
