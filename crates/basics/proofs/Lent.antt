@@ -1,7 +1,7 @@
 -- Laws of lists whose first entries a call writes, one after the other.
 --     written-next         one entry more
 --     written-all          all entries
---     written-padded       over a list that repeats one value
+--     written-padded       over an array that repeats one value
 --     zeros-at             an entry of a list of zeros, or past its end
 --     wrote                the first entries and the later ones
 --     map-next, map-long   entries that are worked out one by one: one more, and their number
@@ -15,6 +15,7 @@ use native.Mathlib.Omega.{arith}
 use lib.ListN.{length, getD, set, take, drop, replicate, length-map}
 use lib.Seq.{take-append-seam, drop-append-seam, take-suc, length-take-le, drop-length}
 use Rattle.basics.specs.Lent.{Lent, Wrote, written}
+use Rattle.basics.specs.Arrays.{padded}
 
 module _ {A : Type 0} where
   pub written-next :
@@ -34,7 +35,7 @@ module _ {A : Type 0} where
 
   pub written-padded :
       (first : List A) (size : ℕ) (x : A) →
-      written first (replicate size x) ≡ first ++ replicate (size - length first) x
+      written first (replicate size x) ≡ padded size x first
   written-padded first size x = rw (drop-replicate (length first) size x)
 
 pub wrote : (first : List ℕ) (l : Lent) → l .after ≡ written first (l .before) → Wrote first l

@@ -9,7 +9,7 @@ use lib.ListN.{length, take}
 use Rattle.job_file.specs.File.{outcomeOf}
 use Rattle.job_grammar.specs.Examples.{jobH, jobJ, glassesJ, panesJ}
 use Rattle.job_grammar.proofs.Examples.{too-long, nothing-wanted, thirteen-bytes, job-read}
-use Rattle.clauses.proofs.Examples as clauses
+use Rattle.clauses.proofs.Laws as clauses
 use Rattle.row_placing.specs.Schedule.{Schedule}
 use Rattle.row_placing.specs.Glazing.{Glazing}
 use Rattle.placing.specs.Passing.{scheduleOf}

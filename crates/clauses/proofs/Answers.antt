@@ -13,7 +13,6 @@ use Rattle.ids.specs.declared.IdPlace.the-variants.{At, Missing}
 use Rattle.ids.proofs.Lookups.{place-found}
 use Rattle.causes.specs.declared.Cause.the-variants.{NoPane, NoGlass}
 use Rattle.clauses.specs.Answer.{pairOf}
-use Rattle.clauses.specs.declared.question.PairPlace.{PairPlace}
 use Rattle.clauses.specs.declared.question.PairPlace.the-variants.{Both, Unknown}
 
 module _ (glassIds paneIds : List ℕ) (pane glass : ℕ) where

@@ -3,7 +3,7 @@
 --     Found, place-found                   a place that is found is one of the list, and has the id
 --     place-missing                        an id that is not found stands at no place
 use Prim.Native.Nat.{ℕ, zero, suc, _+_, _≤_, _<_}
-use mathlib.Core.Path.{_≡_, refl, ap, sym, _∙_}
+use mathlib.Core.Path.{_≡_, refl}
 use mathlib.Core.Bool.{Bool, true, false}
 use mathlib.Core.List.{List, [], _∷_}
 use native.Mathlib.Numerals.{add-one}
@@ -15,7 +15,6 @@ use borrow.Author.Tests.{eq-eqb, ne-eqb, eqb-true, eqb-false}
 use Rattle.basics.specs.Choice.{if_then_else_}
 use Rattle.basics.proofs.Tests.{clash}
 use Rattle.ids.specs.Lookup.{placeFrom, placeOf}
-use Rattle.ids.specs.declared.IdPlace.{IdPlace}
 use Rattle.ids.specs.declared.IdPlace.the-variants.{At, Missing}
 
 module _ (id : ℕ) (ids : List ℕ) (i : ℕ) where

@@ -17,10 +17,8 @@ use Rattle.causes.specs.declared.Cause.{Cause}
 use Rattle.causes.specs.declared.Cause.the-variants.{FileLength, NoTrailer, PartOffsets}
 use Rattle.basics.specs.Choice.{if_then_else_}
 use Rattle.job_part.specs.Part.{Lines, whole, stopped, partLines}
-use Rattle.job_glass.specs.GlassLine.{glassForm, allowedGlass}
-use Rattle.job_pane.specs.PaneLine.{paneForm, allowedPane}
-use Rattle.job_glass.specs.GlassLine.{blankGlass}
-use Rattle.job_pane.specs.PaneLine.{blankPane}
+use Rattle.job_glass.specs.GlassLine.{glassForm, allowedGlass, blankGlass}
+use Rattle.job_pane.specs.PaneLine.{paneForm, allowedPane, blankPane}
 use Rattle.job_glass.specs.Values.{GlassValues}
 use Rattle.job_pane.specs.Values.{PaneValues}
 use Rattle.job_glass.specs.declared.Glass.{Glass}

@@ -15,14 +15,12 @@ use borrow.Author.Tests.{lt-ltb, le-ltb, le-leb, lt-leb}
 use Rattle.causes.specs.declared.Cause.{Cause}
 use Rattle.causes.specs.declared.Cause.the-variants.{FileLength, NoTrailer, PartOffsets}
 use Rattle.job_part.specs.Part.{Lines, whole, stopped, partLines}
-use Rattle.job_glass.specs.GlassLine.{glassForm}
-use Rattle.job_pane.specs.PaneLine.{paneForm}
+use Rattle.job_glass.specs.GlassLine.{glassForm, blankGlass}
+use Rattle.job_pane.specs.PaneLine.{paneForm, blankPane}
 use Rattle.job_file.specs.File.{part, trailer, offsets, noTrailer, accepted, refused, partsOutcome, outcomeOf}
-use Rattle.job_glass.specs.GlassLine.{blankGlass}
-use Rattle.job_pane.specs.PaneLine.{blankPane}
-use Rattle.job_part.specs.Arrays.{padded}
-use Rattle.job_file.specs.Job.{jobOf}
+use Rattle.basics.specs.Arrays.{padded}
 use Rattle.job_part.specs.Arrays.{PartWhole}
+use Rattle.job_file.specs.Job.{jobOf}
 use Rattle.job_glass.specs.declared.Glass.{Glass}
 use Rattle.job_pane.specs.declared.Pane.{Pane}
 use Rattle.job_file.specs.declared.Checked.the-variants.{Accepted}

@@ -16,7 +16,7 @@ use lib.ListN.{length, take, length-append, length-replicate, length-map}
 use lib.Seq.{take-at, getD-take}
 use Rattle.basics.proofs.Tests.{clash}
 use Rattle.causes.specs.declared.Cause.{Cause}
-use Rattle.job_part.specs.Arrays.{padded}
+use Rattle.basics.specs.Arrays.{padded}
 use Rattle.job_glass.specs.GlassLine.{blankGlass}
 use Rattle.job_glass.specs.Values.{GlassValues}
 use Rattle.job_glass.specs.declared.Glass.{Glass}

@@ -16,8 +16,7 @@ use Rattle.job_glass.specs.GlassLine.{glassForm}
 use Rattle.job_glass.specs.declared.Glass.{Glass}
 use Rattle.job_pane.specs.PaneLine.{paneForm}
 use Rattle.job_pane.specs.declared.Pane.{Pane}
-use Rattle.job_file.specs.File.{Trailer, offsets, noTrailer, trailer}
-use Rattle.job_file.specs.File.{Outcome, accepted, refused, part, partsOutcome, outcomeOf}
+use Rattle.job_file.specs.File.{Trailer, offsets, noTrailer, trailer, Outcome, accepted, refused, part, partsOutcome, outcomeOf}
 
 -- What is shown of a part and of a file.
 abbrev PartWithin : {A : Type 0} → ℕ → Lines A → Type 0

@@ -1,15 +1,11 @@
 -- What reading a part promises: its entries, at the front of an array.
 use Prim.Native.Nat.{ℕ, _-_, _≤_}
 use mathlib.Core.Path.{_≡_}
-use mathlib.Core.List.{List, _++_}
+use mathlib.Core.List.{List}
 use lib.ListN.{length, take, drop, replicate}
 use Rattle.job_part.specs.Part.{Lines, whole, stopped}
 use Rattle.job_part.specs.declared.PartEnd.{PartEnd}
 use Rattle.job_part.specs.declared.PartEnd.the-variants.{Whole, Stopped}
-
--- A list at the front of an array of `size` entries, and `blank` in the others.
-abbrev pub padded : {A : Type 0} → ℕ → A → List A → List A
-padded size blank xs = xs ++ replicate (size - length xs) blank
 
 -- A part's n entries stand at the front of an array of this size, with `blank` in the others.
 pub record PartWhole {A : Type 0} (size : ℕ) (blank : A) (d : Lines A) (xs : List A) (n : ℕ) : Type 0 where

@@ -1,5 +1,5 @@
 -- The rules of document 01, "The job file", that the entries of a part keep that is read whole.
-use Prim.Native.Nat.{ℕ, _≤_}
+use Prim.Native.Nat.{_≤_}
 use mathlib.Core.Bool.{Bool, not}
 use mathlib.Core.List.{List, [], _∷_, map}
 use lib.Dec.{T}

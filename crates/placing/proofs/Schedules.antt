@@ -1,13 +1,13 @@
 -- The rows and the numbers that are made of a job that was read state its schedule.
 --     known-file    an accepted file has what the placing asks of a schedule
 --     stated-job    its rows and numbers state its schedule
-use Prim.Native.Nat.{ℕ, _≤_, _<_}
+use Prim.Native.Nat.{ℕ, _<_}
 use mathlib.Core.Path.{_≡_, ap, sym, _∙_}
 use mathlib.Core.List.{List}
 use native.Mathlib.Omega.{arith}
 use lib.ListN.{length, getD, take, length-map, List·getD-map, List·getD-append}
 use lib.Seq.{length-take-le, getD-take}
-use Rattle.job_part.specs.Arrays.{padded}
+use Rattle.basics.specs.Arrays.{padded}
 use Rattle.job_glass.specs.GlassLine.{blankGlass}
 use Rattle.job_glass.specs.declared.Glass.{Glass}
 use Rattle.job_pane.specs.PaneLine.{blankPane}

@@ -11,8 +11,7 @@ use Rattle.job_pane.specs.PaneLine.{blankPane}
 use Rattle.job_file.specs.File.{outcomeOf}
 use Rattle.job_file.specs.Job.{glassesOf, panesOf, glassIdsOf, paneIdsOf}
 use Rattle.job_file.specs.declared.job.Job.{Job}
-use Rattle.job_file.proofs.Laws.{JobOf, job-read, refusal-read, glass-count, pane-count, few-glasses, few-panes, glass-at, pane-at}
-use Rattle.job_file.proofs.Laws.{glass-ids-lent, pane-ids-lent}
+use Rattle.job_file.proofs.Laws.{JobOf, job-read, refusal-read, glass-count, pane-count, few-glasses, few-panes, glass-at, pane-at, glass-ids-lent, pane-ids-lent}
 use Rattle.clauses.specs.Verdict.{verdictOf}
 use Rattle.clauses.specs.Answer.{verdictSays, pairOf, pairAnswer, answerOf}
 use Rattle.clauses.proofs.Answers.{pair-within}

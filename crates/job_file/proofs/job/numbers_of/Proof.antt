@@ -4,13 +4,12 @@ use borrow.Author.Needs.{needs}
 use Prim.Native.Nat.{_-_, _≤_}
 use native.Mathlib.Omega.{arith}
 use mathlib.Core.Path.{_≡_, refl, _∙_}
-use mathlib.Core.List.{List}
-use lib.ListN.{length, take, replicate}
+use lib.ListN.{take, replicate}
 use Rattle.basics.specs.Lent.{written}
 use Rattle.basics.proofs.Lent.{written-map, written-padded}
 use Rattle.job_glass.specs.GlassLine.{blankGlass}
 use Rattle.job_pane.specs.PaneLine.{blankPane}
-use Rattle.job_part.specs.Arrays.{padded}
+use Rattle.basics.specs.Arrays.{padded}
 use Rattle.job_file.specs.Job.{glassesOf, panesOf, glassIdsOf, paneIdsOf, stocksOf}
 use Rattle.job_file.proofs.Jobs.{glass-count, pane-count, few-glasses, few-panes, glasses-long, panes-long}
 use Rattle.job_file.proofs.job.numbers_of.Statement.{statement}

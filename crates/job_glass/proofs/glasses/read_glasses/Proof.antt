@@ -7,9 +7,8 @@ use mathlib.Core.Path.{_≡_, refl}
 use mathlib.Core.List.{map}
 use lib.ListN.{length, take, drop}
 use denote.Ref.{now}
-use Rattle.job_glass.specs.GlassLine.{glassForm}
+use Rattle.job_glass.specs.GlassLine.{glassForm, blankGlass}
 use Rattle.job_part.specs.Part.{judged, taken}
-use Rattle.job_glass.specs.GlassLine.{blankGlass}
 use Rattle.job_glass.specs.declared.Glass.{Glass}
 use Rattle.ids.proofs.IdSets.{ids-none}
 use Rattle.job_part.proofs.Kept.{taken-was}

@@ -7,9 +7,8 @@ use mathlib.Core.Path.{_≡_, refl}
 use mathlib.Core.List.{map}
 use lib.ListN.{length, take, drop}
 use denote.Ref.{now}
-use Rattle.job_pane.specs.PaneLine.{paneForm}
+use Rattle.job_pane.specs.PaneLine.{paneForm, blankPane}
 use Rattle.job_part.specs.Part.{judged, taken}
-use Rattle.job_pane.specs.PaneLine.{blankPane}
 use Rattle.job_pane.specs.declared.Pane.{Pane}
 use Rattle.ids.proofs.IdSets.{ids-none}
 use Rattle.job_part.proofs.Kept.{taken-was}
