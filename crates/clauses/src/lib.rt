@@ -43,7 +43,17 @@ pub fn verdict(file: &[u8], pane: u32, glass: u32) -> Answer
             glass_count: _,
             pane_count: _,
         } => {
-            match find_pair(numbers_of(job), pane, glass) {
+            let numbers = numbers_of(job);
+            let glass_ids = numbers.glass_ids;
+            let pane_ids = numbers.pane_ids;
+            let glass_count = numbers.glass_count;
+            let pane_count = numbers.pane_count;
+            match find_pair(
+                &glass_ids[..glass_count],
+                &pane_ids[..pane_count],
+                pane,
+                glass,
+            ) {
                 PairPlace::Unknown(cause) => Answer::Refused { cause, offset: 0 },
                 PairPlace::Both(p, g) => {
                     let the_pane = job.panes[p];

@@ -6,7 +6,7 @@
 --     few-glasses, few-panes      the lists are within their arrays
 --     glasses-long, panes-long    which have 64 and 256 entries
 --     glass-at, pane-at           a glass and a pane of a job are of allowed values
---     as-many-panes               a job's numbers count its panes
+--     as-many-glasses, as-many-panes   a job's numbers count its glasses and panes
 --     glass-ids-lent, pane-ids-lent    the lists of ids that are lent of a job's numbers
 use Prim.Native.Nat.{ℕ, _≤_, _<_}
 use mathlib.Core.Path.{_≡_, refl, ap, sym, subst, _∙_}
@@ -108,6 +108,11 @@ module _ (job : Job) (r : ReadJob job) where
   pane-at p l =
       subst PaneValues (getD-take (job .«pane_count») (job .panes) p blankPane l)
       (pane-values (r .rules) p (omega (arith, pane-count)))
+
+pub as-many-glasses :
+    (job : Job) → ReadJob job → (numbers : JobNumbers) → numbers ≡ numbersOf (glassesOf job) (panesOf job) →
+    numbers .«glass_count» ≡ job .«glass_count»
+as-many-glasses job r numbers are = ap (λ (n : JobNumbers). n .«glass_count») are ∙ sym (glass-count job r)
 
 pub as-many-panes :
     (job : Job) → ReadJob job → (numbers : JobNumbers) → numbers ≡ numbersOf (glassesOf job) (panesOf job) →

@@ -1,31 +1,13 @@
 -- `question::find_pair` meets its contract: each answer is that of the places where the two ids stand.
 use borrow.Author.Needs.{needs}
-use native.Mathlib.Omega.{arith}
-use mathlib.Core.Path.{_≡_, sym, _∙_}
-use lib.ListN.{length}
-use lib.Seq.{length-take-le}
+use mathlib.Core.Path.{sym, _∙_}
 use Rattle.clauses.proofs.Answers.{no-pane, no-glass, both}
 use Rattle.clauses.proofs.question.find_pair.Statement.{statement}
 use Rattle.clauses.proofs.question.find_pair.Tie as tie
 
--- Where the ids are looked for, and where the pane was found.
-abbrev start : tie.After-find-id → tie.Start
-start f = f .before .before .before
-
+-- Where the pane was found.
 abbrev pane-known : tie.After-find-id2 → tie.After-p
-pane-known f = f .before .before .before .before
-
-pane-ids-long : (s : tie.Start) → length (s .args .numbers .«pane_ids») ≡ 256
-pane-ids-long s = search needs
-
-glass-ids-long : (s : tie.Start) → length (s .args .numbers .«glass_ids») ≡ 64
-glass-ids-long s = search needs
-
-pane-room : tie.Need-array-share-prefix-pane-ids
-pane-room c = omega (arith, pane-ids-long (c .before), c .before .pre)
-
-glass-room : tie.Need-array-share-prefix-glass-ids
-glass-room c = let s = start (c .before .before .before .before) in omega (arith, glass-ids-long s, s .pre)
+pane-known f = f .before .before
 
 missing-pane : tie.Need-returns
 missing-pane c =
@@ -51,13 +33,9 @@ pub find-pair-spec : {M : Type 1} → statement M
 find-pair-spec =
     tie.close
     (tie.spec
-    pane-room
-    (λ c. sym (length-take-le _ _ (pane-room (c .before))))
     (λ c κs. search needs)
     (λ c. search needs)
     (λ c. search needs)
-    glass-room
-    (λ c. sym (length-take-le _ _ (glass-room (c .before))))
     (λ c κs. search needs)
     (λ c. search needs)
     (λ c. search needs)
