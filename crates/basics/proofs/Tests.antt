@@ -3,6 +3,7 @@
 --     and-iff, leb-iff   both of two tests; a number at most another
 --     both-true          both of two tests pass
 --     both-false         neither of two tests does
+--     if-high            a choice of two numbers within a bound
 --     one-of             a number is one of several
 --     same-or-not        two numbers are equal or not
 --     last-or-below      a number below n + 1 is n or below n
@@ -14,6 +15,7 @@ use mathlib.Core.Bool.{Bool, true, false, _&&_, _||_}
 use native.Mathlib.Nat.{le-of-suc-le-suc, eq-or-lt-of-le}
 use native.Mathlib.Omega.{arith}
 use lib.Dec.{T, leb, eqb, leb→le, le→leb, eqb→eq}
+use Rattle.basics.specs.Choice.{if_then_else_}
 
 -- Two constructors are never equal: `cc` makes any claim of that kind into this one.
 pub clash : {A : Type 0} → _≡_ {A = ℕ} 0 1 → A
@@ -37,6 +39,10 @@ both-true false b e = differ e refl
 pub both-false : (a b : Bool) → (a || b) ≡ false → (a ≡ false) × (b ≡ false)
 both-false false b e = (refl, e)
 both-false true b e = differ refl e
+
+pub if-high : {x y n : ℕ} (b : Bool) → x ≤ n → y ≤ n → (if b then x else y) ≤ n
+if-high true h k = h
+if-high false h k = k
 
 pub one-of : {B : Type 0} (n a : ℕ) (others : Bool) → (T others → B) → T (eqb n a || others) → (n ≡ a) ⊎ B
 one-of {B} n a others f h = go (eqb n a) (eqb→eq n a) h

@@ -13,7 +13,7 @@ pub enum Cause {
     RepeatedId,
     TooLong,
     TooManyLines,
-    // of what comes with it: a lent list shorter than the number of panes, an id that the file does not have
+    // of what comes with it: a lent list that is too short, an id that the file does not have
     ListTooShort,
     NoPane,
     NoGlass,

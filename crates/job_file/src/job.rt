@@ -25,7 +25,7 @@ pub struct JobNumbers {
     pub pane_ids: [u32; 256],
 }
 
-// All of them at once, since each function that takes a job copies it.
+// The numbers of a job: all of them at once, since each function that takes a job copies it.
 pub fn numbers_of(job: Job) -> JobNumbers
     requires { ⌜ ReadJob job ⌝ }
     ensures { λ r. ⌜ r ≡ numbersOf (glassesOf job) (panesOf job) ⌝ }

@@ -1,21 +1,15 @@
 -- What selects a row of the tables is within the table.
---     if-high                                  a choice of two numbers within a bound
 --     table-high, load-high, thickness-high    of a kind, a live load and a thickness
 --     row-high                                 of the three together
 --     nominal-is                               the nominal thicknesses, by their rows: 2 mm apart
 use Prim.Native.Nat.{ℕ, _+_, _*_, _≤_, _<_}
 use mathlib.Core.Path.{_≡_}
 use mathlib.Core.Logic.{inl, inr}
-use mathlib.Core.Bool.{Bool, true, false}
 use native.Mathlib.Omega.{arith}
 use lib.Dec.{eqb}
-use Rattle.basics.specs.Choice.{if_then_else_}
+use Rattle.basics.proofs.Tests.{if-high}
 use Rattle.span_table.specs.Spans.{tableOf, loadOf, thicknessOf, rowOf}
 use Rattle.span_table.specs.SpanRule.{Nominal}
-
-pub if-high : {x y n : ℕ} (b : Bool) → x ≤ n → y ≤ n → (if b then x else y) ≤ n
-if-high true h k = h
-if-high false h k = k
 
 pub table-high : (kind : ℕ) → tableOf kind ≤ 3
 table-high kind =
