@@ -4,16 +4,18 @@
 --     span-high, pressure-high, constant-high   B, P and K
 --     uniform-values                            what the clause reads of a pane
 use Prim.Native.Nat.{ℕ, _*_, _≤_}
+use mathlib.Core.Path.{_≡_}
+use mathlib.Core.Logic.{_⊎_, inl, inr}
 use native.Mathlib.Nat.{mul-le-mul, max-le}
 use native.Mathlib.Omega.{arith}
 use lib.Dec.{eqb}
+use Rattle.basics.proofs.Tests.{if-high}
 use Rattle.job_glass.specs.Values.{GlassValues}
 use Rattle.job_glass.specs.declared.Glass.{Glass}
 use Rattle.job_pane.specs.Values.{PaneValues}
 use Rattle.job_pane.specs.declared.Pane.{Pane}
 use Rattle.dead_loads.proofs.DeadLoads.{in-place}
 use Rattle.point_load.specs.Support.{spanOf}
-use Rattle.span_table.proofs.Rows.{if-high, thickness-high, nominal-is}
 use Rattle.uniform_load.specs.GlassLoads.{maxDeadLoad, minDeadLoad}
 use Rattle.uniform_load.specs.UniformLoad.{spanConstant}
 use Rattle.uniform_load.specs.Steps.{uniformLoadOf, pressureOn, UniformValues}
@@ -21,7 +23,13 @@ use Rattle.uniform_load.specs.declared.UniformLoad.{UniformLoad}
 
 module _ {g : Glass} (values : GlassValues g) where
   thick-high : g .thick ≤ 12
-  thick-high = omega (arith, nominal-is (g .thick) (values .thick-is), thickness-high (g .thick))
+  thick-high = go (values .thick-is)
+    where
+      go : (g .thick ≡ 6) ⊎ ((g .thick ≡ 8) ⊎ ((g .thick ≡ 10) ⊎ (g .thick ≡ 12))) → g .thick ≤ 12
+      go (inl e) = omega (arith, e)
+      go (inr (inl e)) = omega (arith, e)
+      go (inr (inr (inl e))) = omega (arith, e)
+      go (inr (inr (inr e))) = omega (arith, e)
 
   pub weight-high : (row : ℕ) → row ≤ 57 → row * g .thick ≤ 57 * 12
   weight-high row h = mul-le-mul h thick-high
