@@ -1,7 +1,7 @@
 //! The greatest matching of panes and glasses by augmenting paths: the search of `crates/matching`
 //! in safe Rust, with the same steps in the same order.
 //!
-//! A set of glasses is a word of 64 bits, one for each glass in file order.
+//! A set of glasses is a word of 64 bits; bit g is for the glass with number g.
 
 use compare::job::MOST_GLASSES;
 

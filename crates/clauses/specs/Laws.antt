@@ -21,7 +21,7 @@ clauseFails n p g =
     else if eqb n 3 then pointLoadFails p g
     else uniformLoadFails p g
 
--- "fails" with the number of the first clause that fails: this one fails, and every clause before it passes.
+-- A clause is the first to fail: it fails, and those before it pass.
 pub record FirstToFail (n : ℕ) (p : Pane) (g : Glass) : Type 0 where
   pub low : 1 ≤ n
   pub high : n ≤ 4

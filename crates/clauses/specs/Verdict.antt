@@ -1,4 +1,4 @@
--- Document 01, "The four clauses": "The verdict is either "passes" or "fails" with the number of the first clause that fails."
+-- Document 01, "The four clauses": the verdict of a pane and a glass, by the first of the clauses that fails, if one does.
 use Rattle.basics.specs.Choice.{if_then_else_}
 use Rattle.job_glass.specs.declared.Glass.{Glass}
 use Rattle.job_pane.specs.declared.Pane.{Pane}

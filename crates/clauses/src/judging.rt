@@ -17,7 +17,7 @@ ghost use Rattle.job_pane.specs.Values.{PaneValues};
 ghost use Rattle.clauses.specs.Verdict.{verdictOf};
 ghost use Rattle.clauses.specs.Loaded.{HasTables, loadedOf};
 
-// A glass passes for a pane, or fails with the number of the first clause that fails.
+// Whether a glass may be used for a pane, and if not, by which clause.
 pub enum Verdict {
     Passes,
     Fails(u32),

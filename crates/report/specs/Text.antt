@@ -16,7 +16,7 @@ lineOf first numbers = first ++ (writtenNumbers numbers ++ (newline ∷ []))
 abbrev pub pairLine : ℕ → ℕ → List ℕ
 pairLine a b = lineOf (writtenNumber a) (b ∷ [])
 
--- "one line per pane in file order (pane id, glass id or 0)": the lines of the first n panes, by their ids.
+-- A pane's line has its id and that of its glass, or 0 where it has none: the lines of the first n panes.
 unfoldable pub paneLines : List ℕ → List ℕ → ℕ → List ℕ
 paneLines ids answers zero = []
 paneLines ids answers (suc n) = paneLines ids answers n ++ pairLine (getD ids n 0) (getD answers n 0)

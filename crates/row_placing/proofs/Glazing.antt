@@ -115,10 +115,14 @@ module _
             holding = holding s b;
           };
       wanted-is = refl;
-      held-low = best .or-none;
+      tight = tight;
+      held-greatest = best;
       answers-are = answers-are;
       placed-is = answered .placed-is;
       few-placed = few-placed;
+      group-ids = listed;
+      group-is = refl;
+      group-are = wrote listed group is;
       few-listed = few;
     }
 
