@@ -12,12 +12,22 @@ mod row;
 mod safe;
 mod search;
 mod shapes;
+mod stack;
 mod timing;
 
+use std::env::args;
 use std::process::ExitCode;
 
 fn main() -> ExitCode {
-    match run() {
+    let words: Vec<String> = args().skip(1).collect();
+    let words: Vec<&str> = words.iter().map(String::as_str).collect();
+    let done = match words[..] {
+        [] => times(),
+        ["stack"] => stack::print().map(|()| true),
+        ["stack", call, shape, size] => stack::attempt(call, shape, size).map(|()| true),
+        _ => Err("no such measurement".to_string()),
+    };
+    match done {
         Ok(true) => ExitCode::SUCCESS,
         Ok(false) => ExitCode::FAILURE,
         Err(reason) => {
@@ -27,8 +37,8 @@ fn main() -> ExitCode {
     }
 }
 
-/// Prints both tables, and then whether the bar is met.
-fn run() -> Result<bool, String> {
+/// Prints both tables of times, and then whether the bar is met.
+fn times() -> Result<bool, String> {
     print_method();
     println!();
     let rows = comparison::print()?;
