@@ -5,7 +5,7 @@ use crate::roof::Roof;
 
 pub const PASSING: &str = "a pane is only given a glass that passes for it";
 pub const STOCK: &str = "no glass is given to more panes than its stock";
-pub const SPARE: &str = "a pane left with 0 has no passing glass with a sheet to spare";
+pub const SPARE: &str = "where a pane has 0, every sheet of the glasses that pass for it is given";
 pub const WANTED: &str = "wanted is the number of panes in the file";
 pub const PLACED: &str = "placed is the number of nonzero answers";
 pub const ALL_SERVED: &str = "placed is wanted exactly when every pane can be served";

@@ -14,8 +14,9 @@ use native.Mathlib.Numerals.{add-one}
 use native.Mathlib.Omega.{arith}
 use lib.ListN.{length, getD, set, take, drop, replicate, length-map}
 use lib.Seq.{take-append-seam, drop-append-seam, take-suc, length-take-le, drop-length}
-use Rattle.basics.specs.Lent.{Lent, Wrote, written}
-use Rattle.basics.specs.Arrays.{padded}
+use Rattle.basics.specs.Lent.{Lent, Wrote}
+use Rattle.basics.specs.Internal.Arrays.{written}
+use Rattle.basics.specs.Internal.Arrays.{padded}
 
 module _ {A : Type 0} where
   pub written-next :

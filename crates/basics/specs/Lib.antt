@@ -2,5 +2,4 @@
 pub mod Choice
 -- Lists that a caller lends.
 pub mod Lent
--- Lists in arrays of fixed size.
-pub mod Arrays
+pub mod Internal

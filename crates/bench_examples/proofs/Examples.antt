@@ -7,15 +7,16 @@ use mathlib.Core.List.{List, [], _∷_}
 use native.Mathlib.Omega.{arith}
 use lib.ListN.{length, take}
 use Rattle.job_file.specs.File.{outcomeOf}
-use Rattle.job_grammar.specs.Examples.{jobH, jobJ, glassesJ, panesJ}
-use Rattle.job_grammar.proofs.Examples.{too-long, nothing-wanted, thirteen-bytes, job-read}
-use Rattle.clauses.proofs.Laws as clauses
+use Rattle.bench_examples.specs.Files.{jobH, jobJ}
+use Rattle.bench_examples.proofs.Files.{glassesJ, panesJ, not-too-long, too-long, nothing-wanted, thirteen-bytes, job-read}
+use Rattle.causes.specs.Answer.{gives}
+use Rattle.span_table.specs.Spans.{spans}
 use Rattle.row_placing.specs.Schedule.{Schedule}
 use Rattle.row_placing.specs.Glazing.{Glazing}
-use Rattle.placing.specs.Passing.{scheduleOf}
-use Rattle.placing.specs.Promise.{counts, Call, Counted}
+use Rattle.placing.specs.FileSchedule.{scheduleOf}
+use Rattle.placing.specs.Promise.{Call, PlacedCall}
 use Rattle.placing.proofs.Laws.{nonzero-le, counted-of}
-use Rattle.bench_examples.specs.Examples.{ExampleJ, Examples}
+use Rattle.bench_examples.specs.Examples.{counts, ExampleJ, Examples}
 use Rattle.bench_examples.proofs.JobJ.{scheduleJ, full-placing, no-other}
 
 pub glazing-h :
@@ -26,15 +27,15 @@ glazing-h ids group placed g =
 
 -- The result of a call, by what its placing is.
 result-is :
-    (s : Schedule) (c : Call) (k : Counted s c) (wanted placed : ℕ) →
-    length (s .panes) ≡ wanted → k .of .placed ≡ placed → k .glazed .group-ids ≡ [] → c .result ≡ counts wanted placed 0
+    (s : Schedule) (c : Call) (k : PlacedCall s c) (wanted placed : ℕ) →
+    length (s .pane-ids) ≡ wanted → k .counts .placed ≡ placed → k .glazed .group-ids ≡ [] → c .result ≡ gives (counts wanted placed 0)
 result-is s c k wanted placed w p g =
-    k .result ∙ rw (k .glazed .wanted-is, k .glazed .group-is, w, p, g)
+    k .result-is ∙ rw (k .glazed .wanted-is, k .glazed .group-is, w, p, g)
 
-example-h : (c : Call) → Counted (scheduleOf [] [] []) c → c .result ≡ counts 0 0 0
+example-h : (c : Call) → PlacedCall (scheduleOf [] [] []) c → c .result ≡ gives (counts 0 0 0)
 example-h c k =
     let g = k .glazed in
-    let is = glazing-h (g .ids) (g .group-ids) (k .of .placed) (g .glazing) in
+    let is = glazing-h (g .ids) (g .group-ids) (k .counts .placed) (g .glazing) in
     result-is (scheduleOf [] [] []) c k 0 0 refl (is .0) (is .1)
 
 pub glazing-j :
@@ -44,31 +45,31 @@ glazing-j ids group placed g =
     let all = g .all-placeable full-placing in
     (all, no-other ids (g .placing) (sym (g .placed-is) ∙ all), g .if-equal all)
 
-example-j : (c : Call) → Counted scheduleJ c → ExampleJ c
+example-j : (c : Call) → PlacedCall scheduleJ c → ExampleJ c
 example-j c k =
     let g = k .glazed in
-    let is = glazing-j (g .ids) (g .group-ids) (k .of .placed) (g .glazing) in
+    let is = glazing-j (g .ids) (g .group-ids) (k .counts .placed) (g .glazing) in
     record {
       counted = result-is scheduleJ c k 2 2 refl (is .0) (is .2);
       answers =
-          subst (λ (ids : List ℕ). take (length ids) (c .answers .after) ≡ ids) (is .1) (g .answers-written .front);
+          subst (λ (ids : List ℕ). take (length ids) (c .answer-list .after) ≡ ids) (is .1) (g .answers-written .front);
     }
 
 pub examples : Examples
-examples =
-    let of-clauses = clauses.examples in
-    record {
-      a = of-clauses .a;
-      b = of-clauses .b;
-      c = record { columns = of-clauses .c; by-3001 = too-long };
-      d = of-clauses .d;
-      e = of-clauses .e;
-      f = of-clauses .f;
-      g-two = of-clauses .g-two;
-      g-four = of-clauses .g-four;
-      h = record {
-        counted = λ c p. example-h c (counted-of (outcomeOf jobH) [] [] c nothing-wanted (omega arith) (omega arith) p);
-      };
-      i = record { too-short = thirteen-bytes };
-      j = λ c l k p. example-j c (counted-of (outcomeOf jobJ) glassesJ panesJ c job-read l k p);
-    }
+unfolding spans
+examples = record {
+  a = record { at-29 = refl; at-30 = refl; awning = refl };
+  b = record { at-2999 = refl; at-3000 = refl };
+  c = record { by-2000 = refl; by-2001 = refl; by-3000 = refl; accepts-3000 = not-too-long; by-3001 = too-long };
+  d = record { at-5 = refl; at-11 = refl };
+  e = record { maximum = refl; minimum = refl };
+  f = record { maximum = refl; minimum = refl };
+  g-two = record { span = refl; pressure = refl; pressure-too = refl; at-1200 = refl; at-1199 = refl };
+  g-four = record { span = refl; pressure = refl; pressure-too = refl; at-1200 = refl; at-1199 = refl };
+  h = record {
+    counted = λ c p. example-h c (counted-of (outcomeOf jobH) [] [] c nothing-wanted (omega arith) (omega arith) p);
+  };
+  i = record { too-short = thirteen-bytes };
+  j-span = refl;
+  j = λ c l k p. example-j c (counted-of (outcomeOf jobJ) glassesJ panesJ c job-read l k p);
+}

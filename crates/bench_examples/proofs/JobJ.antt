@@ -12,28 +12,28 @@ use lib.Dec.{eqb}
 use lib.ListN.{getD}
 use Rattle.basics.specs.Choice.{if_then_else_}
 use Rattle.basics.proofs.Tests.{clash}
-use Rattle.job_grammar.specs.Examples.{glassesJ, panesJ}
+use Rattle.bench_examples.proofs.Files.{glassesJ, panesJ}
 use Rattle.span_table.specs.Spans.{spans}
 use Rattle.clauses.specs.Verdict.{verdictOf}
-use Rattle.job_file.specs.Job.{glassAt, paneAt, stocksOf}
+use Rattle.job_file.specs.Entries.{glassAt, paneAt, stocksOf}
 use Rattle.row_placing.specs.Schedule.{Schedule}
 use Rattle.row_placing.specs.Placing.{times, nonzero, PassingId, Placing, FullPlacing}
-use Rattle.placing.specs.Passing.{passes, scheduleOf}
+use Rattle.placing.specs.FileSchedule.{passesFor, scheduleOf}
 
 -- What is to be placed.
 abbrev pub scheduleJ : Schedule
 scheduleJ = scheduleOf glassesJ (stocksOf glassesJ) panesJ
 
 -- The verdicts that matter, computed: glass 7 is at place 1, glass 9 at place 0.
-pane-1-glass-7 : passes (paneAt panesJ 0) (glassAt glassesJ 1) ≡ true
+pane-1-glass-7 : passesFor (paneAt panesJ 0) (glassAt glassesJ 1) ≡ true
 unfolding verdictOf spans
 pane-1-glass-7 = refl
 
-pane-2-glass-9 : passes (paneAt panesJ 1) (glassAt glassesJ 0) ≡ true
+pane-2-glass-9 : passesFor (paneAt panesJ 1) (glassAt glassesJ 0) ≡ true
 unfolding verdictOf spans
 pane-2-glass-9 = refl
 
-pane-2-glass-7 : passes (paneAt panesJ 1) (glassAt glassesJ 1) ≡ false
+pane-2-glass-7 : passesFor (paneAt panesJ 1) (glassAt glassesJ 1) ≡ false
 unfolding verdictOf spans
 pane-2-glass-7 = refl
 
@@ -49,7 +49,7 @@ placing = record { one-each = refl; passing = given; in-stock = stock }
     given (suc zero) l = inr (record { place = 0; within = omega arith; is-id = refl; passing = pane-2-glass-9 })
     given (suc (suc i)) l = absurd (omega arith)
 
-    stock : (j : ℕ) → j < 2 → times (getD (scheduleJ .glasses) j 0) answers ≤ getD (stocksOf glassesJ) j 0
+    stock : (j : ℕ) → j < 2 → times (getD (scheduleJ .glass-ids) j 0) answers ≤ getD (stocksOf glassesJ) j 0
     stock zero l = omega arith
     stock (suc zero) l = omega arith
     stock (suc (suc j)) l = absurd (omega arith)
@@ -62,7 +62,7 @@ full-placing = record { ids = answers; placing = placing; every-pane = refl }
 first : (x : ℕ) → PassingId scheduleJ 0 x → (x ≡ 9) ⊎ (x ≡ 7)
 first x p = go (p .place) (p .within) (p .is-id)
   where
-    go : (j : ℕ) → j < 2 → getD (scheduleJ .glasses) j 0 ≡ x → (x ≡ 9) ⊎ (x ≡ 7)
+    go : (j : ℕ) → j < 2 → getD (scheduleJ .glass-ids) j 0 ≡ x → (x ≡ 9) ⊎ (x ≡ 7)
     go zero l e = inl (sym e)
     go (suc zero) l e = inr (sym e)
     go (suc (suc j)) l e = absurd (omega arith)
@@ -70,7 +70,7 @@ first x p = go (p .place) (p .within) (p .is-id)
 second : (y : ℕ) → PassingId scheduleJ 1 y → y ≡ 9
 second y p = go (p .place) (p .within) (p .is-id) (p .passing)
   where
-    go : (j : ℕ) → j < 2 → getD (scheduleJ .glasses) j 0 ≡ y → passes (paneAt panesJ 1) (glassAt glassesJ j) ≡ true → y ≡ 9
+    go : (j : ℕ) → j < 2 → getD (scheduleJ .glass-ids) j 0 ≡ y → passesFor (paneAt panesJ 1) (glassAt glassesJ j) ≡ true → y ≡ 9
     go zero l e pass = sym e
     go (suc zero) l e pass = let differ = sym pane-2-glass-7 ∙ pass in clash (cc)
     go (suc (suc j)) l e pass = absurd (omega arith)

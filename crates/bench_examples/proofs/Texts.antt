@@ -6,12 +6,13 @@ use mathlib.Core.List.{List, [], _++_}
 use Rattle.causes.specs.Cause.{numberOf}
 use Rattle.causes.specs.declared.Cause.{Cause}
 use Rattle.causes.specs.declared.Cause.the-variants.{FileLength, TooLong}
+use Rattle.job_line.specs.Bytes.{bytesOf}
 use Rattle.job_line.specs.WrittenNumber.{writtenDigits, digitCount, writtenNumber, writtenNumbers}
 use Rattle.job_file.specs.File.{Outcome, accepted, refused, outcomeOf}
-use Rattle.job_grammar.specs.Examples.{bytesOf, pane3001, jobH, glassesJ, panesJ}
-use Rattle.job_grammar.proofs.Examples.{too-long, nothing-wanted, thirteen-bytes, job-read}
+use Rattle.bench_examples.specs.Files.{pane3001, jobH}
+use Rattle.bench_examples.proofs.Files.{glassesJ, panesJ, too-long, nothing-wanted, thirteen-bytes, job-read}
 use Rattle.report.specs.Text.{paneLines, placingText, refusalText}
-use Rattle.report.specs.Promise.{TextOf, TextOfPlacing}
+use Rattle.report.specs.Reported.{TextOf, TextOfPlacing}
 use Rattle.bench_examples.specs.Texts.{Texts}
 use Rattle.bench_examples.proofs.Examples.{glazing-h, glazing-j}
 
@@ -25,11 +26,11 @@ placed-text o text is t = rw is at t
 
 text-h : (text : List ℕ) → TextOfPlacing [] [] text → text ≡ bytesOf "0 0\n"
 unfolding placingText paneLines writtenNumber writtenNumbers writtenDigits digitCount
-text-h text t = t .is-text ∙ rw (glazing-h (t .ids) (t .group) (t .placed) (t .glazing) .0)
+text-h text t = t .is-text ∙ rw (glazing-h (t .answers) (t .group) (t .placed) (t .glazing) .0)
 
 text-j : (text : List ℕ) → TextOfPlacing glassesJ panesJ text → text ≡ bytesOf "1 7\n" ++ bytesOf "2 9\n" ++ bytesOf "2 2\n"
 unfolding placingText paneLines writtenNumber writtenNumbers writtenDigits digitCount
-text-j text t = let is = glazing-j (t .ids) (t .group) (t .placed) (t .glazing) in t .is-text ∙ rw (is .0, is .1)
+text-j text t = let is = glazing-j (t .answers) (t .group) (t .placed) (t .glazing) in t .is-text ∙ rw (is .0, is .1)
 
 pub texts : Texts
 unfolding refusalText writtenNumber writtenNumbers writtenDigits digitCount

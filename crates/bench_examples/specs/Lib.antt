@@ -1,4 +1,5 @@
 -- The bench examples (a) to (j).
 pub mod Examples
--- What `canopy` prints of those that are files.
+-- The files of those that are files, and what `canopy` prints of them.
+pub mod Files
 pub mod Texts

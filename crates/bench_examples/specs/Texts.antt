@@ -1,12 +1,13 @@
--- Document 01, "The program `canopy`": what it prints of the examples that are files. No other text keeps the promise of
+-- Document 01, "The program `canopy`": what it prints of the second file of (c), of (h), (i) and (j). No other text keeps the promise of
 -- `report`.
 use mathlib.Core.Path.{_≡_}
 use mathlib.Core.List.{List, _++_}
 use Prim.Native.Nat.{ℕ}
 use lib.ListN.{length}
+use Rattle.job_line.specs.Bytes.{bytesOf}
 use Rattle.job_file.specs.File.{outcomeOf}
-use Rattle.job_grammar.specs.Examples.{bytesOf, pane3001, jobH, jobJ}
-use Rattle.report.specs.Promise.{TextOf}
+use Rattle.bench_examples.specs.Files.{pane3001, jobH, jobJ}
+use Rattle.report.specs.Reported.{TextOf}
 
 pub record Texts : Type 0 where
   -- the last size of (c)

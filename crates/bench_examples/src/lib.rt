@@ -1,1 +1,1 @@
-// Document 01, "Bench examples, settled by one result for the group": no code, only the theorem.
+// Document 01, "Bench examples": no code, only the theorem.

@@ -5,6 +5,7 @@
 --     has-minus           the bits of a word that another has not
 --     has-one             the word of one bit
 --     first-has           the digit above the trailing zeros is a bit of a word that is not 0
+--     none-below          no digit among the trailing zeros is a bit
 use Prim.Native.Nat.{ℕ, zero, suc, _-_, _*_, _/_, _%_, _^_, _<_}
 use mathlib.Core.Path.{_≡_, refl, ap, sym, _∙_}
 use mathlib.Core.Bool.{Bool, true, false, not, _&&_, _||_}
@@ -15,7 +16,7 @@ use lib.Bits.{bitAnd, bitOr, and-shr, and-mod, or-shr, or-mod, shifted-half, shi
 use lib.Count.{trailingZeros, under}
 use lib.Dec.{eqb, eqb·zero-suc, eqb·suc-zero, eqb·suc-suc}
 use lib.Pow.{shr-shr, shl-exact}
-use Rattle.bits.specs.Bit.{has}
+use Rattle.bits.specs.Internal.Bit.{has}
 
 -- What holds of 0 and of 1 holds of a number's lowest digit.
 on-digit : (P : ℕ → Type 0) → P 0 → P 1 → (n : ℕ) → P (n % 2)
@@ -95,3 +96,15 @@ first-has (suc k) word some l = go (word % 2) refl (λ rest. first-has k (word /
         (omega (arith, found .0), has-next word (trailingZeros k (word / 2)) ∙ found .1)
     go (suc zero) e later = (omega arith, has-first word ∙ rw e)
     go (suc (suc d)) e later = absurd (omega arith)
+
+pub none-below : (k word i : ℕ) → i < trailingZeros k word → has word i ≡ false
+unfolding trailingZeros
+none-below zero word i l = absurd (omega arith)
+none-below (suc k) word i l = go (word % 2) refl i l (none-below k (word / 2))
+  where
+    go :
+        (d : ℕ) → word % 2 ≡ d → (i : ℕ) → i < under d (trailingZeros k (word / 2)) →
+        ((j : ℕ) → j < trailingZeros k (word / 2) → has (word / 2) j ≡ false) → has word i ≡ false
+    go zero e zero l later = has-first word ∙ rw e
+    go zero e (suc i) l later = has-next word i ∙ later i (omega arith)
+    go (suc d) e i l later = absurd (omega arith)

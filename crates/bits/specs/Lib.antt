@@ -1,2 +1,1 @@
--- The bits of words.
-pub mod Bit
+pub mod Internal

@@ -14,62 +14,58 @@ use Rattle.causes.proofs.Numbers.{numbered}
 use Rattle.job_glass.specs.declared.Glass.{Glass}
 use Rattle.job_pane.specs.declared.Pane.{Pane}
 use Rattle.job_file.specs.File.{Outcome, accepted, refused}
-use Rattle.job_file.specs.Answer.{answerOf}
-use Rattle.job_file.specs.Job.{glassAt, paneAt, glassIdsOf, paneIdsOf, stocksOf}
-use Rattle.clauses.specs.Verdict.{verdictOf}
-use Rattle.clauses.specs.declared.judging.Verdict.{Verdict}
-use Rattle.clauses.specs.declared.judging.Verdict.the-variants.{Passes, Fails}
+use Rattle.job_file.specs.Entries.{glassIdsOf, paneIdsOf, stocksOf}
+use Rattle.job_file.specs.CheckAnswer.{checkAnswer}
 use Rattle.clauses.specs.declared.question.PairPlace.{PairPlace}
 use Rattle.clauses.specs.declared.question.PairPlace.the-variants.{Both, Unknown}
-use Rattle.clauses.specs.Answer as question
+use Rattle.clauses.specs.VerdictAnswer.{verdictAnswer}
+use Rattle.clauses.specs.Internal.Pair.{pairOf, pairAnswer}
+use Rattle.clauses.proofs.Laws.{answer-pair}
 use Rattle.row_placing.specs.Schedule.{Schedule}
-use Rattle.placing.specs.Passing.{scheduleOf}
-use Rattle.placing.specs.Promise as placing
-use Rattle.bordavina.specs.Results.{checkResult, verdictResult, placeResult, Accepts, Judges, Counts, NumberTells}
+use Rattle.placing.specs.FileSchedule.{scheduleOf}
+use Rattle.placing.specs.Promise.{Call, RefusedCall, isTooShort, PromisedOf, Promised}
+use Rattle.bordavina.specs.Results.{checkResult, verdictResult, placeResult, NotRefused, NumberTells}
 
 -- A cause's number is not 0, and a claim that it is holds of nothing.
 refuses-tells : (cause : Cause) → numberOf cause ≡ 0 ↔ ⊥
 refuses-tells cause = (λ zero. omega (arith, numbered cause .not-zero, zero), λ none. absurd none)
 
-check-tells : (o : Outcome) → checkResult (answerOf o) .number ≡ 0 ↔ Accepts o
+check-tells : (o : Outcome) → checkResult (checkAnswer o) .number ≡ 0 ↔ NotRefused (checkAnswer o)
 check-tells (accepted glasses panes) = (λ zero. tt, λ is. refl)
 check-tells (refused cause offset) = refuses-tells cause
 
-verdict-tells : (v : Verdict) → verdictResult (question.verdictSays v) .number ≡ 0 ↔ Judges (question.verdictSays v)
-verdict-tells Passes = (λ zero. tt, λ is. refl)
-verdict-tells (Fails clause) = (λ zero. tt, λ is. refl)
-
 pair-tells :
     (glasses : List Glass) (panes : List Pane) (pair : PairPlace) →
-    verdictResult (question.pairAnswer glasses panes pair) .number ≡ 0 ↔ Judges (question.pairAnswer glasses panes pair)
-pair-tells glasses panes (Both p g) = verdict-tells (verdictOf (paneAt panes p) (glassAt glasses g))
+    verdictResult (pairAnswer glasses panes pair) .number ≡ 0 ↔ NotRefused (pairAnswer glasses panes pair)
+pair-tells glasses panes (Both p g) = (λ zero. tt, λ is. refl)
 pair-tells glasses panes (Unknown cause) = refuses-tells cause
 
-question-tells :
+verdict-tells :
     (o : Outcome) (pane glass : ℕ) →
-    verdictResult (question.answerOf o pane glass) .number ≡ 0 ↔ Judges (question.answerOf o pane glass)
-unfolding question.answerOf
-question-tells (refused cause offset) pane glass = refuses-tells cause
-question-tells (accepted glasses panes) pane glass =
-    pair-tells glasses panes (question.pairOf (glassIdsOf glasses) (paneIdsOf panes) pane glass)
+    verdictResult (verdictAnswer o pane glass) .number ≡ 0 ↔ NotRefused (verdictAnswer o pane glass)
+unfolding verdictAnswer
+verdict-tells (refused cause offset) pane glass = refuses-tells cause
+verdict-tells (accepted glasses panes) pane glass =
+    rw (answer-pair glasses panes pane glass)
+    (pair-tells glasses panes (pairOf (glassIdsOf glasses) (paneIdsOf panes) pane glass))
 
 result-refused :
-    (c : placing.Call) (cause : Cause) (offset : ℕ) → placing.Refusal cause offset c →
-    placeResult (c .result) .number ≡ 0 ↔ Counts (c .result)
-result-refused c cause offset r = rw (r .result) (refuses-tells cause)
+    (c : Call) (cause : Cause) (offset : ℕ) → RefusedCall cause offset c →
+    placeResult (c .result) .number ≡ 0 ↔ NotRefused (c .result)
+result-refused c cause offset r = rw (r .result-is) (refuses-tells cause)
 
 due-tells :
-    (s : Schedule) (c : placing.Call) (b : Bool) → placing.Due s c b →
-    placeResult (c .result) .number ≡ 0 ↔ Counts (c .result)
+    (s : Schedule) (c : Call) (b : Bool) → PromisedOf s c b →
+    placeResult (c .result) .number ≡ 0 ↔ NotRefused (c .result)
 due-tells s c true r = result-refused c ListTooShort 0 r
-due-tells s c false k = rw (k .result) (λ zero. tt, λ is. refl)
+due-tells s c false k = rw (k .result-is) (λ zero. tt, λ is. refl)
 
 place-tells :
-    (o : Outcome) (c : placing.Call) → placing.Promised o c → placeResult (c .result) .number ≡ 0 ↔ Counts (c .result)
-unfolding placing.Promised
+    (o : Outcome) (c : Call) → Promised o c → placeResult (c .result) .number ≡ 0 ↔ NotRefused (c .result)
+unfolding Promised
 place-tells (refused cause offset) c p = result-refused c cause offset p
 place-tells (accepted glasses panes) c p =
-    due-tells (scheduleOf glasses (stocksOf glasses) panes) c (placing.isTooShort c (length panes)) p
+    due-tells (scheduleOf glasses (stocksOf glasses) panes) c (isTooShort c (length panes)) p
 
 pub number-tells : (o : Outcome) → NumberTells o
-number-tells o = record { check = check-tells o; verdict = question-tells o; place = place-tells o }
+number-tells o = record { check = check-tells o; verdict = verdict-tells o; place = place-tells o }

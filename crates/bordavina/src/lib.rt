@@ -14,15 +14,15 @@ use results::place_result;
 use results::verdict_result;
 ghost use mathlib.Core.Path.{_≡_};
 ghost use Rattle.job_file.specs.File.{outcomeOf};
-ghost use Rattle.job_file.specs.Answer.{answerOf};
-ghost use Rattle.clauses.specs.Answer.{answerOf as questionAnswer};
-ghost use Rattle.report.specs.Promise.{Reported};
+ghost use Rattle.job_file.specs.CheckAnswer.{checkAnswer};
+ghost use Rattle.clauses.specs.VerdictAnswer.{verdictAnswer};
+ghost use Rattle.report.specs.Reported.{Reported};
 ghost use Rattle.bordavina.specs.Results.{checkResult, verdictResult, PlacedAs};
 
 // Whether a file is accepted.
 #[no_mangle]
 pub extern "C" fn bordavina_check(file: &[u8]) -> CheckResult
-    ensures { λ r. ⌜ r ≡ checkResult (answerOf (outcomeOf (now (file .entry)))) ⌝ }
+    ensures { λ r. ⌜ r ≡ checkResult (checkAnswer (outcomeOf (now (file .entry)))) ⌝ }
 {
     check_result(check(file))
 }
@@ -30,7 +30,7 @@ pub extern "C" fn bordavina_check(file: &[u8]) -> CheckResult
 // Whether the glass of that id may be used for the pane of that id.
 #[no_mangle]
 pub extern "C" fn bordavina_verdict(file: &[u8], pane: u32, glass: u32) -> VerdictResult
-    ensures { λ r. ⌜ r ≡ verdictResult (questionAnswer (outcomeOf (now (file .entry))) pane glass) ⌝ }
+    ensures { λ r. ⌜ r ≡ verdictResult (verdictAnswer (outcomeOf (now (file .entry))) pane glass) ⌝ }
 {
     verdict_result(verdict(file, pane, glass))
 }

@@ -1,13 +1,13 @@
 // Results as structs of numbers: specs/Results.antt.
 use causes::number_of;
-use clauses::Answer;
+use clauses::Ruling;
 use clauses::Verdict;
 use job_file::Checked;
 use placing::Placed;
 ghost use mathlib.Core.Path.{_≡_};
-ghost use Rattle.job_file.specs.Answer.{says as checkSays};
-ghost use Rattle.clauses.specs.Answer.{says as answerSays};
-ghost use Rattle.placing.specs.Promise.{says as placedSays};
+ghost use Rattle.job_file.specs.CheckAnswer.{checkedSays};
+ghost use Rattle.clauses.specs.VerdictAnswer.{rulingSays};
+ghost use Rattle.placing.specs.Promise.{placedSays};
 ghost use Rattle.bordavina.specs.Results.{checkResult, clauseOf, verdictResult, placeResult};
 
 // Of a check: number 0 and the counts, or a refusal's number and offset.
@@ -38,7 +38,7 @@ pub struct PlaceResult {
 }
 
 pub fn check_result(checked: Checked) -> CheckResult
-    ensures { λ r. ⌜ r ≡ checkResult (checkSays checked) ⌝ }
+    ensures { λ r. ⌜ r ≡ checkResult (checkedSays checked) ⌝ }
 {
     match checked {
         Checked::Accepted {
@@ -59,16 +59,16 @@ pub fn check_result(checked: Checked) -> CheckResult
     }
 }
 
-pub fn verdict_result(answer: Answer) -> VerdictResult
-    ensures { λ r. ⌜ r ≡ verdictResult (answerSays answer) ⌝ }
+pub fn verdict_result(ruling: Ruling) -> VerdictResult
+    ensures { λ r. ⌜ r ≡ verdictResult (rulingSays ruling) ⌝ }
 {
-    match answer {
-        Answer::Judged(v) => VerdictResult {
+    match ruling {
+        Ruling::Ruled(v) => VerdictResult {
             number: 0,
             offset: 0,
             clause: clause_of(v),
         },
-        Answer::Refused { cause, offset } => VerdictResult {
+        Ruling::Refused { cause, offset } => VerdictResult {
             number: number_of(cause) as usize,
             offset,
             clause: 0,

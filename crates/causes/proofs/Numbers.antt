@@ -1,7 +1,7 @@
 -- What holds of the number of every cause, by cases.
 --     numbered    it is not 0, and has at most two digits
 use native.Mathlib.Omega.{arith}
-use Rattle.causes.specs.Cause.{Numbered}
+use Rattle.causes.specs.Internal.Numbered.{Numbered}
 use Rattle.causes.specs.declared.Cause.{Cause}
 use Rattle.causes.specs.declared.Cause.the-variants.{
   FileLength,

@@ -1,19 +1,7 @@
 -- Document 01, "What each cause gives": the table's column "Number". Definitions name a cause; its number stands here alone.
-use Prim.Native.Nat.{ℕ, _≤_}
+use Prim.Native.Nat.{ℕ}
 use Rattle.causes.specs.declared.Cause.{Cause}
-use Rattle.causes.specs.declared.Cause.the-variants.{
-  FileLength,
-  NoTrailer,
-  PartOffsets,
-  LineForm,
-  NumberValue,
-  RepeatedId,
-  TooLong,
-  TooManyLines,
-  ListTooShort,
-  NoPane,
-  NoGlass,
-}
+use Rattle.causes.specs.declared.Cause.the-variants.{FileLength, NoTrailer, PartOffsets, LineForm, NumberValue, RepeatedId, TooLong, TooManyLines, ListTooShort, NoPane, NoGlass}
 
 abbrev pub numberOf : Cause → ℕ
 numberOf FileLength = 1
@@ -27,8 +15,3 @@ numberOf TooManyLines = 8
 numberOf ListTooShort = 9
 numberOf NoPane = 10
 numberOf NoGlass = 11
-
--- No refusal has number 0, which says that a call is not refused; and a number has at most two digits.
-pub record Numbered (cause : Cause) : Type 0 where
-  pub not-zero : 1 ≤ numberOf cause
-  pub two-digits : numberOf cause ≤ 99

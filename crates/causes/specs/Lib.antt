@@ -1,2 +1,4 @@
--- Document 01, "What each cause gives": the causes and their numbers.
+-- Document 01, "What each cause gives": the causes and their numbers, and what a call answers.
 pub mod Cause
+pub mod Answer
+pub mod Internal

@@ -7,7 +7,7 @@ use native.Mathlib.Omega.{arith}
 use lib.ListN.{length, getD, take}
 use lib.Seq.{take-suc, take-all}
 use borrow.Author.Tests.{eq-eqb, ne-eqb}
-use Rattle.check_job.specs.Place.{newlines, lineOf}
+use Rattle.check_job.specs.Internal.Place.{newlines, lineNumber}
 
 append : (xs ys : List ℕ) → newlines (xs ++ ys) ≡ newlines xs + newlines ys
 unfolding newlines
@@ -18,13 +18,13 @@ module _ (file : List ℕ) (i : ℕ) (inside : i < length file) where
   longer : newlines (take (i + 1) file) ≡ newlines (take i file) + newlines (getD file i 0 ∷ [])
   longer = rw (add-one, take-suc file i 0) (append (take i file) (getD file i 0 ∷ []))
 
-  pub line-more : getD file i 0 ≡ 10 → lineOf file (i + 1) ≡ lineOf file i + 1
+  pub line-more : getD file i 0 ≡ 10 → lineNumber file (i + 1) ≡ lineNumber file i + 1
   unfolding newlines
   line-more is = rw (longer, eq-eqb (getD file i 0) 10 is) (omega arith)
 
-  pub line-same : (getD file i 0 ≡ 10 → ⊥) → lineOf file (i + 1) ≡ lineOf file i
+  pub line-same : (getD file i 0 ≡ 10 → ⊥) → lineNumber file (i + 1) ≡ lineNumber file i
   unfolding newlines
   line-same other = rw (longer, ne-eqb (getD file i 0) 10 other) (omega arith)
 
-pub line-whole : (file : List ℕ) (i offset : ℕ) → length file ≤ i → i ≤ offset → lineOf file i ≡ lineOf file offset
+pub line-whole : (file : List ℕ) (i offset : ℕ) → length file ≤ i → i ≤ offset → lineNumber file i ≡ lineNumber file offset
 line-whole file i offset all past = rw (take-all i file all, take-all offset file (omega arith))

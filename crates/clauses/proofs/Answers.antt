@@ -1,5 +1,6 @@
 -- The pane and the glass of a question, by the places of the two ids.
 --     no-pane, no-glass, both    what is found
+--     answer-pair                the answer of an accepted file, by what is found
 --     pair-within                places that are found are those of the lists
 use Prim.Native.Nat.{ℕ, _<_}
 use mathlib.Core.Path.{_≡_, refl}
@@ -12,7 +13,12 @@ use Rattle.ids.specs.declared.IdPlace.{IdPlace}
 use Rattle.ids.specs.declared.IdPlace.the-variants.{At, Missing}
 use Rattle.ids.proofs.Lookups.{place-found}
 use Rattle.causes.specs.declared.Cause.the-variants.{NoPane, NoGlass}
-use Rattle.clauses.specs.Answer.{pairOf}
+use Rattle.job_glass.specs.declared.Glass.{Glass}
+use Rattle.job_pane.specs.declared.Pane.{Pane}
+use Rattle.job_file.specs.File.{accepted}
+use Rattle.job_file.specs.Entries.{glassIdsOf, paneIdsOf}
+use Rattle.clauses.specs.VerdictAnswer.{verdictAnswer}
+use Rattle.clauses.specs.Internal.Pair.{pairOf, pairAnswer}
 use Rattle.clauses.specs.declared.question.PairPlace.the-variants.{Both, Unknown}
 
 module _ (glassIds paneIds : List ℕ) (pane glass : ℕ) where
@@ -45,3 +51,20 @@ module _ (glassIds paneIds : List ℕ) (pane glass : ℕ) where
             omega (arith, same-pane, place-found pane paneIds i is .within),
             omega (arith, same-glass, place-found glass glassIds j there .within),
           )
+
+pub answer-pair :
+    (glasses : List Glass) (panes : List Pane) (pane glass : ℕ) →
+    verdictAnswer (accepted glasses panes) pane glass
+    ≡ pairAnswer glasses panes (pairOf (glassIdsOf glasses) (paneIdsOf panes) pane glass)
+unfolding verdictAnswer
+answer-pair glasses panes pane glass = go (placeOf pane (paneIdsOf panes)) (placeOf glass (glassIdsOf glasses)) refl refl
+  where
+    go :
+        (x y : IdPlace) → placeOf pane (paneIdsOf panes) ≡ x → placeOf glass (glassIdsOf glasses) ≡ y →
+        verdictAnswer (accepted glasses panes) pane glass
+        ≡ pairAnswer glasses panes (pairOf (glassIdsOf glasses) (paneIdsOf panes) pane glass)
+    go Missing y is there = rw (no-pane (glassIdsOf glasses) (paneIdsOf panes) pane glass is, verdictAnswer, is)
+    go (At p) Missing is there =
+        rw (no-glass (glassIdsOf glasses) (paneIdsOf panes) pane glass p is there, verdictAnswer, is, there)
+    go (At p) (At g) is there =
+        rw (both (glassIdsOf glasses) (paneIdsOf panes) pane glass p is g there, verdictAnswer, is, there)

@@ -13,7 +13,7 @@ use Rattle.clauses.specs.Size.{sizeFails}
 use Rattle.clauses.specs.Verdict.{verdictOf}
 use Rattle.clauses.specs.declared.judging.Verdict.the-variants.{Passes, Fails}
 
--- A clause, by its number.
+-- A clause, by its number; any number but 1, 2 and 3 reads as that of clause 4.
 abbrev pub clauseFails : ℕ → Pane → Glass → Bool
 clauseFails n p g =
     if eqb n 1 then kindFails p g

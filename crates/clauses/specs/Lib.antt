@@ -3,9 +3,7 @@ pub mod Kind
 pub mod Size
 pub mod Verdict
 -- What the call `verdict` answers.
-pub mod Answer
--- What the code works out or makes once.
-pub mod Loaded
+pub mod VerdictAnswer
 -- What follows from the definitions.
 pub mod Laws
-pub mod Examples
+pub mod Internal

@@ -1,4 +1,4 @@
--- Document 01, "The four clauses": "2. Size."
+-- Document 01, "The four clauses", clause 2, size.
 use Prim.Native.Nat.{ℕ}
 use mathlib.Core.Bool.{Bool, not, _&&_, _||_}
 use lib.Dec.{leb}
@@ -9,7 +9,7 @@ use Rattle.job_pane.specs.declared.Pane.{Pane}
 abbrev pub cutSide : ℕ → Glass → ℕ
 cutSide side g = side
 
--- "The pane must lie within the sheet, w along w or w along h; equal sides pass."
+-- Either way round, neither side of the pane is longer than the sheet's.
 abbrev pub liesWithin : Pane → Glass → Bool
 liesWithin p g =
     (leb (cutSide (p .w) g) (g .w) && leb (cutSide (p .h) g) (g .h))

@@ -12,10 +12,10 @@ use uniform_load::UniformLoad;
 use uniform_load::is_overloaded;
 use uniform_load::uniform_load_of;
 ghost use mathlib.Core.Path.{_≡_};
-ghost use Rattle.job_glass.specs.Values.{GlassValues};
-ghost use Rattle.job_pane.specs.Values.{PaneValues};
+ghost use Rattle.job_glass.specs.Internal.Values.{GlassValues};
+ghost use Rattle.job_pane.specs.Internal.Values.{PaneValues};
 ghost use Rattle.clauses.specs.Verdict.{verdictOf};
-ghost use Rattle.clauses.specs.Loaded.{HasTables, loadedOf};
+ghost use Rattle.clauses.specs.Internal.Loaded.{HasTables, loadedOf};
 
 // Whether a glass may be used for a pane, and if not, by which clause.
 pub enum Verdict {

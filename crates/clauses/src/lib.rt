@@ -1,7 +1,7 @@
 // The clause check: document 01, "The four clauses".
 //
 // `verdict` says whether a glass of a job file may be used for a pane of it. It answers for every list of bytes and any two
-// ids, as specs/Answer.antt defines. `judge` and `judge_loaded` say it of a pane and a glass held as values.
+// ids, as specs/VerdictAnswer.antt defines. `judge` and `judge_loaded` say it of a pane and a glass held as values.
 mod judging;
 mod kind;
 mod question;
@@ -23,22 +23,22 @@ pub use tables::ClauseTables;
 pub use tables::clause_tables;
 ghost use mathlib.Core.Path.{_≡_};
 ghost use Rattle.job_file.specs.File.{outcomeOf};
-ghost use Rattle.clauses.specs.Answer.{says, answerOf};
+ghost use Rattle.clauses.specs.VerdictAnswer.{rulingSays, verdictAnswer};
 
 // The answer to a question: the verdict, or why there is none.
-pub enum Answer {
-    Judged(Verdict),
+pub enum Ruling {
+    Ruled(Verdict),
     Refused { cause: Cause, offset: usize },
 }
 
 // Whether the glass of that id may be used for the pane of that id.
-pub fn verdict(file: &[u8], pane: u32, glass: u32) -> Answer
-    ensures { λ r. ⌜ says r ≡ answerOf (outcomeOf (now (file .entry))) pane glass ⌝ }
+pub fn verdict(file: &[u8], pane: u32, glass: u32) -> Ruling
+    ensures { λ r. ⌜ rulingSays r ≡ verdictAnswer (outcomeOf (now (file .entry))) pane glass ⌝ }
 {
     let job = read_job(file);
     let checked = job.checked;
     match checked {
-        Checked::Refused { cause, offset } => Answer::Refused { cause, offset },
+        Checked::Refused { cause, offset } => Ruling::Refused { cause, offset },
         Checked::Accepted {
             glass_count: _,
             pane_count: _,
@@ -54,11 +54,11 @@ pub fn verdict(file: &[u8], pane: u32, glass: u32) -> Answer
                 pane,
                 glass,
             ) {
-                PairPlace::Unknown(cause) => Answer::Refused { cause, offset: 0 },
+                PairPlace::Unknown(cause) => Ruling::Refused { cause, offset: 0 },
                 PairPlace::Both(p, g) => {
                     let the_pane = job.panes[p];
                     let the_glass = job.glasses[g];
-                    Answer::Judged(judge(the_pane, the_glass))
+                    Ruling::Ruled(judge(the_pane, the_glass))
                 }
             }
         }

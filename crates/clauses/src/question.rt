@@ -1,9 +1,9 @@
-// Which pane and which glass a question is about: specs/Answer.antt.
+// Which pane and which glass a question is about: specs/Internal/Pair.antt.
 use causes::Cause;
 use ids::IdPlace;
 use ids::find_id;
 ghost use mathlib.Core.Path.{_≡_};
-ghost use Rattle.clauses.specs.Answer.{pairOf};
+ghost use Rattle.clauses.specs.Internal.Pair.{pairOf};
 
 // The places of a pane and a glass, counted from 0, or why there are none.
 pub enum PairPlace {

@@ -10,30 +10,30 @@ use borrow.Author.Tests.{leb-true, eqb-true}
 use lib.Dec.{leb, eqb}
 use lib.ListN.{getD}
 use Rattle.basics.proofs.Tests.{both-true}
-use Rattle.ranges.specs.Ranges.{allTo}
+use Rattle.ranges.specs.Internal.Counts.{allTo}
 use Rattle.ranges.proofs.All.{all-at}
-use Rattle.dead_loads.specs.DeadLoads.{deadLoads, maxRow, minRow}
+use Rattle.dead_loads.specs.DeadLoads.{deadLoads, maximumAt, minimumAt}
 
 -- The table as the code holds it: maximum and minimum.
 abbrev table : List (List ℕ)
 table = map (λ r. r .maximum ∷ r .minimum ∷ []) deadLoads
 
 abbrev pub maxAt : ℕ → ℕ
-maxAt row = getD (getD table row []) 0 0
+maxAt loadRow = getD (getD table loadRow []) 0 0
 
 abbrev pub minAt : ℕ → ℕ
-minAt row = getD (getD table row []) 1 0
+minAt loadRow = getD (getD table loadRow []) 1 0
 
 pub record InPlace (angle : ℕ) : Type 0 where
-  pub max-is : maxRow angle ≡ maxAt (angle / 5)
-  pub min-is : minRow angle ≡ minAt ((angle + 4) / 5)
-  pub max-high : maxRow angle ≤ 57
-  pub min-high : minRow angle ≤ 57
+  pub max-is : maximumAt angle ≡ maxAt (angle / 5)
+  pub min-is : minimumAt angle ≡ minAt ((angle + 4) / 5)
+  pub max-high : maximumAt angle ≤ 57
+  pub min-high : minimumAt angle ≤ 57
 
 abbrev isInPlace : ℕ → Bool
 isInPlace angle =
-    (eqb (maxRow angle) (maxAt (angle / 5)) && eqb (minRow angle) (minAt ((angle + 4) / 5)))
-    && (leb (maxRow angle) 57 && leb (minRow angle) 57)
+    (eqb (maximumAt angle) (maxAt (angle / 5)) && eqb (minimumAt angle) (minAt ((angle + 4) / 5)))
+    && (leb (maximumAt angle) 57 && leb (minimumAt angle) 57)
 
 all-in-place : allTo isInPlace 75 ≡ true
 unfolding allTo

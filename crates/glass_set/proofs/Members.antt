@@ -8,6 +8,8 @@
 --     within-out             a glass that is not in the greater set is not in the smaller
 --     unvisited-le           a set with every glass of another leaves at most as many
 --     unvisited-less         with one glass more, it leaves fewer
+--     unvisited-some         a set without a glass leaves at least one
+--     unvisited-most         no set leaves more than 64
 use Prim.Native.Nat.{ℕ, _^_, _≤_, _<_}
 use mathlib.Core.Path.{_≡_, refl, ap, sym, _∙_}
 use mathlib.Core.Bool.{Bool, true, false, not, _&&_, _||_}
@@ -15,13 +17,13 @@ use native.Mathlib.Omega.{arith}
 use borrow.Author.Tests.{eqb-true, eqb-false, not-true, not-false}
 use lib.Count.{trailingZeros}
 use lib.Dec.{eqb}
-use Rattle.ranges.specs.Ranges.{one}
+use Rattle.ranges.specs.Internal.Counts.{one}
 use Rattle.basics.proofs.Tests.{differ}
 use Rattle.ranges.proofs.Sums.{sum-le, sum-less}
-use Rattle.ranges.proofs.Counts.{one-le}
+use Rattle.ranges.proofs.Counts.{one-le, count-le}
 use Rattle.ranges.proofs.All.{all-at, all-of, all-not}
 use Rattle.bits.proofs.Bits.{first-has}
-use Rattle.glass_set.specs.Member.{has, Members, Within, isWithin, unvisited}
+use Rattle.glass_set.specs.Internal.Member.{has, Members, Within, isWithin, unvisited}
 pub use Rattle.bits.proofs.Bits.{has-none}
 
 pub within-at : (a b : ℕ) → isWithin a b ≡ true → Within a b
@@ -79,3 +81,10 @@ pub unvisited-less :
     (a b g : ℕ) → g < 64 → has a g ≡ false → has b g ≡ true → Within a b → unvisited b < unvisited a
 unvisited-less a b g l out is f =
     sum-less (missing b) (missing a) 64 g l (λ i k. missing-le a b i f k) (rw (is, out) (omega arith))
+
+pub unvisited-some : (a g : ℕ) → g < 64 → has a g ≡ false → 0 < unvisited a
+unvisited-some a g l out =
+    omega (arith, sum-less (λ i. 0) (missing a) 64 g l (λ i k. omega arith) (rw out (omega arith)))
+
+pub unvisited-most : (set : ℕ) → unvisited set ≤ 64
+unvisited-most set = count-le (λ g. not (has set g)) 64

@@ -1,2 +1,1 @@
--- A set of glasses as a word of 64 bits.
-pub mod Member
+pub mod Internal

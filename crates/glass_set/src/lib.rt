@@ -1,10 +1,10 @@
-// A set of glasses as a word of 64 bits, one for each glass in file order: document 01, "The placing". Built and tested by shifts
-// and masks; every promise is on each bit, as specs/Member.antt defines.
+// A set of glasses as a word of 64 bits: document 01, "The placing". Bit g is that of the glass at place g of the file. Built and
+// tested by shifts and masks; every promise is on each bit, as specs/Internal/Member.antt defines.
 ghost use mathlib.Core.Path.{_≡_};
-ghost use mathlib.Core.Bool.{true, not, _&&_, _||_};
+ghost use mathlib.Core.Bool.{not, _&&_, _||_};
 ghost use Prim.Native.Nat.{_<_};
 ghost use lib.Dec.{eqb};
-ghost use Rattle.glass_set.specs.Member.{has, Members, isWithin};
+ghost use Rattle.glass_set.specs.Internal.Member.{has, Members, Lowest, isWithin};
 
 // A set with one glass more.
 pub fn with(set: u64, glass: usize) -> u64
@@ -39,7 +39,7 @@ pub fn without(set: u64, glass: usize) -> u64
 // The first glass of a set that is not empty.
 pub fn first(set: u64) -> usize
     requires { ⌜ (set ≡ 0 → ⊥) ⌝ }
-    ensures { λ r. ⌜ (r < 64) × (has set r ≡ true) ⌝ }
+    ensures { λ r. ⌜ Lowest set r ⌝ }
 {
     u64::trailing_zeros(set) as usize
 }

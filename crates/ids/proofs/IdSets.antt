@@ -12,9 +12,9 @@ use lib.Dec.{eqb}
 use lib.ListN.{getD, set, replicate, length-set, length-replicate}
 use lib.Seq.{getD-set-same, getD-set-other}
 use Rattle.basics.proofs.Lent.{zeros-at}
-use Rattle.bits.specs.Bit.{has}
+use Rattle.bits.specs.Internal.Bit.{has}
 use Rattle.bits.proofs.Bits.{has-none, has-or, has-one}
-use Rattle.ids.specs.IdSets.{IdSet}
+use Rattle.ids.specs.Internal.IdSets.{IdSet}
 use Rattle.ids.specs.Ids.{among}
 use Rattle.ids.proofs.Members.{among-append}
 

@@ -19,8 +19,8 @@ use Rattle.basics.specs.Choice.{if_then_else_}
 use Rattle.job_part.specs.Part.{Lines, whole, stopped, partLines}
 use Rattle.job_glass.specs.GlassLine.{glassForm, allowedGlass, blankGlass}
 use Rattle.job_pane.specs.PaneLine.{paneForm, allowedPane, blankPane}
-use Rattle.job_glass.specs.Values.{GlassValues}
-use Rattle.job_pane.specs.Values.{PaneValues}
+use Rattle.job_glass.specs.Internal.Values.{GlassValues}
+use Rattle.job_pane.specs.Internal.Values.{PaneValues}
 use Rattle.job_glass.specs.declared.Glass.{Glass}
 use Rattle.job_pane.specs.declared.Pane.{Pane}
 use Rattle.basics.proofs.Tests.{clash}

@@ -6,36 +6,40 @@
 --     file-parts                                    none of them
 --     job-whole                                     two parts that were read whole
 use Prim.Native.Nat.{ℕ, _+_, _-_, _≤_, _<_}
-use mathlib.Core.Path.{_≡_, sym}
+use mathlib.Core.Path.{_≡_}
 use mathlib.Core.List.{List}
 use native.Mathlib.Omega.{arith}
-use lib.ListN.{length, take, drop, length-take, length-drop, take-append-drop}
-use lib.Seq.{take-all, length-take-le}
+use lib.ListN.{length, take, drop, length-take, length-drop}
+use lib.Seq.{take-all}
 use borrow.Author.Tests.{lt-ltb, le-ltb, le-leb, lt-leb}
 use Rattle.causes.specs.declared.Cause.{Cause}
 use Rattle.causes.specs.declared.Cause.the-variants.{FileLength, NoTrailer, PartOffsets}
-use Rattle.job_part.specs.Part.{Lines, whole, stopped, partLines}
+use Rattle.job_part.specs.Part.{whole, stopped, partLines}
 use Rattle.job_glass.specs.GlassLine.{glassForm, blankGlass}
 use Rattle.job_pane.specs.PaneLine.{paneForm, blankPane}
 use Rattle.job_file.specs.File.{part, trailer, offsets, noTrailer, accepted, refused, partsOutcome, outcomeOf}
-use Rattle.basics.specs.Arrays.{padded}
-use Rattle.job_part.specs.Arrays.{PartWhole}
-use Rattle.job_file.specs.Job.{jobOf}
+use Rattle.job_part.proofs.Ends.{WholePart}
+use Rattle.job_file.specs.Internal.Job.{jobOf}
 use Rattle.job_glass.specs.declared.Glass.{Glass}
 use Rattle.job_pane.specs.declared.Pane.{Pane}
 use Rattle.job_file.specs.declared.Checked.the-variants.{Accepted}
 
 module _ (file : List ℕ) (glass pane end : ℕ) where
-  pub parts-glass : (cause : Cause) (at : ℕ) → partLines glassForm pane (part file glass pane) ≡ stopped cause at → partsOutcome file glass pane end ≡ refused cause at
+  pub parts-glass :
+      (cause : Cause) (at : ℕ) → partLines glassForm pane (part file glass pane) ≡ stopped cause at →
+      partsOutcome file glass pane end ≡ refused cause at
   unfolding partsOutcome
   parts-glass cause at stop = rw (stop, partsOutcome)
 
   module _ (gs : List Glass) (first : partLines glassForm pane (part file glass pane) ≡ whole gs) where
-    pub parts-pane : (cause : Cause) (at : ℕ) → partLines paneForm end (part file pane end) ≡ stopped cause at → partsOutcome file glass pane end ≡ refused cause at
+    pub parts-pane :
+        (cause : Cause) (at : ℕ) → partLines paneForm end (part file pane end) ≡ stopped cause at →
+        partsOutcome file glass pane end ≡ refused cause at
     unfolding partsOutcome
     parts-pane cause at stop = rw (first, partsOutcome) (rw stop)
 
-    pub parts-whole : (ps : List Pane) → partLines paneForm end (part file pane end) ≡ whole ps → partsOutcome file glass pane end ≡ accepted gs ps
+    pub parts-whole :
+        (ps : List Pane) → partLines paneForm end (part file pane end) ≡ whole ps → partsOutcome file glass pane end ≡ accepted gs ps
     unfolding partsOutcome
     parts-whole ps second = rw (first, partsOutcome) (rw second)
 
@@ -77,20 +81,9 @@ module _ (file : List ℕ) where
             rw (le-ltb (length file) 14 long, le-ltb 65535 (length file) fits, read)
             (rw (le-leb glass pane order, le-leb pane (length file - 14) inside))
 
-module _ {A : Type 0} (size : ℕ) (blank : A) (d : Lines A) (xs : List A) (n : ℕ) (w : PartWhole size blank d xs n) where
-  count-whole : n ≡ length (take n xs)
-  count-whole = sym (length-take-le n xs (omega (arith, w .few, w .room)))
-
-  padded-whole : xs ≡ padded size blank (take n xs)
-  padded-whole = rw (← count-whole, ← w .blanks) (sym (take-append-drop n xs))
-
-pub job-whole : (dg : Lines Glass) (dp : Lines Pane) (gs : List Glass) (ps : List Pane) (n m : ℕ)
-    → PartWhole 64 blankGlass dg gs n → PartWhole 256 blankPane dp ps m
-    → record { checked = Accepted n m; glasses = gs; «glass_count» = n; panes = ps; «pane_count» = m }
-    ≡ jobOf (take n gs) (take m ps)
-job-whole dg dp gs ps n m g p =
-    let glasses = count-whole 64 blankGlass dg gs n g in
-    let panes = count-whole 256 blankPane dp ps m p in
-    let glassArray = padded-whole 64 blankGlass dg gs n g in
-    let paneArray = padded-whole 256 blankPane dp ps m p in
-    cc
+pub job-whole :
+    (pane end : ℕ) (glassPart panePart : List ℕ) (gs : List Glass) (ps : List Pane) (n m : ℕ)
+    (g : WholePart glassForm blankGlass pane glassPart gs n) (p : WholePart paneForm blankPane end panePart ps m) →
+    record { checked = Accepted n m; glasses = gs; «glass_count» = n; panes = ps; «pane_count» = m }
+    ≡ jobOf (g .entries) (p .entries)
+job-whole pane end glassPart panePart gs ps n m g p = cc

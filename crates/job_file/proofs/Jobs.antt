@@ -16,17 +16,19 @@ use lib.ListN.{length, take, length-append, length-replicate, length-map}
 use lib.Seq.{take-at, getD-take}
 use Rattle.basics.proofs.Tests.{clash}
 use Rattle.causes.specs.declared.Cause.{Cause}
-use Rattle.basics.specs.Arrays.{padded}
+use Rattle.basics.specs.Internal.Arrays.{padded}
 use Rattle.job_glass.specs.GlassLine.{blankGlass}
-use Rattle.job_glass.specs.Values.{GlassValues}
+use Rattle.job_glass.specs.Internal.Values.{GlassValues}
 use Rattle.job_glass.specs.declared.Glass.{Glass}
 use Rattle.job_pane.specs.PaneLine.{blankPane}
-use Rattle.job_pane.specs.Values.{PaneValues}
+use Rattle.job_pane.specs.Internal.Values.{PaneValues}
 use Rattle.job_pane.specs.declared.Pane.{Pane}
 use Rattle.job_file.specs.File.{Outcome, accepted, refused, outcomeOf}
-use Rattle.job_file.specs.Job.{jobOf, glassesOf, panesOf, glassAt, paneAt, glassIdsOf, paneIdsOf, numbersOf}
-use Rattle.job_file.specs.Answer.{says, answerOf, jobIn}
-use Rattle.job_file.specs.Rules.{ReadJob}
+use Rattle.job_file.specs.Internal.Job.{jobOf, glassesOf, panesOf, numbersOf}
+use Rattle.job_file.specs.Entries.{glassAt, paneAt, glassIdsOf, paneIdsOf}
+use Rattle.job_file.specs.CheckAnswer.{checkedSays, checkAnswer}
+use Rattle.job_file.specs.Internal.Job.{jobIn}
+use Rattle.job_file.specs.Internal.Job.{ReadJob}
 use Rattle.job_file.specs.declared.job.Job.{Job}
 use Rattle.job_file.specs.declared.job.JobNumbers.{JobNumbers}
 use Rattle.job_file.specs.declared.Checked.the-variants.{Accepted, Refused}
@@ -48,7 +50,7 @@ job-lists job gs ps is = (
 )
 
 -- What a check says of a file that was read.
-pub says-in : (o : Outcome) → says (jobIn o .checked) ≡ answerOf o
+pub says-in : (o : Outcome) → checkedSays (jobIn o .checked) ≡ checkAnswer o
 says-in (accepted gs ps) = refl
 says-in (refused cause offset) = refl
 

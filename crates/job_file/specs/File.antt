@@ -1,90 +1,78 @@
--- Document 01, "The job file": "At most 65,535 bytes. It ends in a trailer of 14 bytes: `T`, space, five digits, space, five
--- digits, newline (byte 10). The first number is the byte offset where the glass part begins. The second is where the pane
--- part begins. The glass part runs to the pane part, and the pane part to the trailer. Bytes before the glass part are the
--- glazier's notes and are not read."
-use Prim.Native.Nat.{ℕ, _+_, _-_}
-use mathlib.Core.Bool.{_&&_, _||_}
+-- Document 01, "The job file", first paragraph, and "What each cause gives", rows 1 to 3: the whole file, as a list of bytes.
+use Prim.Native.Nat.{ℕ, _+_, _-_, _*_}
+use mathlib.Core.Bool.{Bool, _&&_, _||_}
 use mathlib.Core.List.{List}
 use lib.Dec.{leb, ltb, eqb}
-use lib.ListN.{length, take, drop}
+use lib.ListN.{length, getD, take, drop}
 use Rattle.causes.specs.declared.Cause.{Cause}
 use Rattle.causes.specs.declared.Cause.the-variants.{FileLength, NoTrailer, PartOffsets}
 use Rattle.basics.specs.Choice.{if_then_else_}
-use Rattle.job_line.specs.Bytes.{newline, space, letterT, next, after, Found, found, nothing}
-use Rattle.job_line.specs.Number.{digits}
+use Rattle.job_line.specs.Bytes.{newline, space, digit0, letterT}
+use Rattle.job_line.specs.Number.{isDigit}
 use Rattle.job_part.specs.Part.{whole, stopped, partLines}
 use Rattle.job_glass.specs.GlassLine.{glassForm}
 use Rattle.job_pane.specs.PaneLine.{paneForm}
 use Rattle.job_glass.specs.declared.Glass.{Glass}
 use Rattle.job_pane.specs.declared.Pane.{Pane}
 
--- Five digits, any of which may be 0: as many digits as come next, at most five, and no fewer.
-unfoldable pub fiveDigits : List ℕ → Found ℕ
-fiveDigits bytes =
-    elim (digits 5 0 bytes) [
-      | found value rest ↦ if eqb (length rest + 5) (length bytes) then found value rest else nothing
-      | nothing ↦ nothing
-    ]
-
--- A space and five digits.
-unfoldable pub offset : List ℕ → Found ℕ
-offset bytes = if eqb (next bytes) space then fiveDigits (after bytes) else nothing
-
 -- The two offsets of a trailer, or no trailer.
 pub data Trailer : Type 0 where
-  offsets : ℕ → ℕ → Trailer
+  offsets : (glassFrom paneFrom : ℕ) → Trailer
   noTrailer : Trailer
 
--- The rest of a trailer, behind the glass offset.
-unfoldable pub trailerRest : ℕ → List ℕ → Trailer
-trailerRest glass bytes =
-    elim (offset bytes) [
-      | found pane end ↦ if eqb (next end) newline then offsets glass pane else noTrailer
-      | nothing ↦ noTrailer
-    ]
+-- Whether five bytes are digits, any of which may be `0`.
+abbrev pub areDigits : (a b c d e : ℕ) → Bool
+areDigits a b c d e = isDigit a && isDigit b && isDigit c && isDigit d && isDigit e
 
--- A trailer: `T` and the two offsets.
+-- The number that five digits make.
+abbrev pub fiveDigits : (a b c d e : ℕ) → ℕ
+fiveDigits a b c d e =
+    (a - digit0) * 10000 + (b - digit0) * 1000 + (c - digit0) * 100 + (d - digit0) * 10 + (e - digit0)
+
+-- A trailer, byte by byte: `T`, a space, five digits, a space, five digits, a newline. Any other bytes are none.
 unfoldable pub trailer : List ℕ → Trailer
 trailer bytes =
-    if eqb (next bytes) letterT
-    then elim (offset (after bytes)) [
-      | found glass rest ↦ trailerRest glass rest
-      | nothing ↦ noTrailer
-    ]
+    let byte : ℕ → ℕ = λ k. getD bytes k 0 in
+    if eqb (length bytes) 14
+    && eqb (byte 0) letterT
+    && eqb (byte 1) space
+    && areDigits (byte 2) (byte 3) (byte 4) (byte 5) (byte 6)
+    && eqb (byte 7) space
+    && areDigits (byte 8) (byte 9) (byte 10) (byte 11) (byte 12)
+    && eqb (byte 13) newline
+    then offsets (fiveDigits (byte 2) (byte 3) (byte 4) (byte 5) (byte 6)) (fiveDigits (byte 8) (byte 9) (byte 10) (byte 11) (byte 12))
     else noTrailer
 
--- What a file says: its glasses and panes in file order, or the first cause and its offset, "1, 2, 3; then lines
--- in file order".
+-- What a file says: its glasses and panes in file order, or the first cause against it and the offset.
 pub data Outcome : Type 0 where
   accepted : List Glass → List Pane → Outcome
   refused : Cause → ℕ → Outcome
 
--- "Each part, taken from its offset to its end".
-abbrev pub part : List ℕ → ℕ → ℕ → List ℕ
+-- The bytes of a file from one offset to another.
+abbrev pub part : (file : List ℕ) (from to : ℕ) → List ℕ
 part file from to = take (to - from) (drop from file)
 
--- The glass part from `glass` to `pane`, then the pane part from `pane` to `end`.
-unfoldable pub partsOutcome : List ℕ → ℕ → ℕ → ℕ → Outcome
-partsOutcome file glass pane end =
-    elim (partLines glassForm pane (part file glass pane)) [
+-- The glass part, then the pane part, by where each and the trailer begin.
+unfoldable pub partsOutcome : (file : List ℕ) (glassFrom paneFrom trailerFrom : ℕ) → Outcome
+partsOutcome file glassFrom paneFrom trailerFrom =
+    elim (partLines glassForm paneFrom (part file glassFrom paneFrom)) [
       | whole glasses ↦
-          elim (partLines paneForm end (part file pane end)) [
+          elim (partLines paneForm trailerFrom (part file paneFrom trailerFrom)) [
             | whole panes ↦ accepted glasses panes
-            | stopped cause at ↦ refused cause at
+            | stopped cause offset ↦ refused cause offset
           ]
-      | stopped cause at ↦ refused cause at
+      | stopped cause offset ↦ refused cause offset
     ]
 
--- 1: "file under 14 or over 65,535 bytes", offset 0; 2: "last 14 bytes not a trailer", "length less 14"; 3: "not: glass
--- offset ≤ pane offset ≤ length less 14", "length less 14".
+-- Causes 1, 2 and 3, in this order; then the lines. What stands before the glass part is in no part, so it is not read.
 unfoldable pub outcomeOf : List ℕ → Outcome
 outcomeOf file =
-    let end : ℕ = length file - 14 in
+    let trailerFrom : ℕ = length file - 14 in
     if ltb (length file) 14 || ltb 65535 (length file) then refused FileLength 0
-    else elim (trailer (drop end file)) [
-      | offsets glass pane ↦
-          if leb glass pane && leb pane end
-          then partsOutcome file glass pane end
-          else refused PartOffsets end
-      | noTrailer ↦ refused NoTrailer end
+    else elim (trailer (drop trailerFrom file)) [
+      | offsets glassFrom paneFrom ↦
+          if leb glassFrom paneFrom && leb paneFrom trailerFrom
+          then partsOutcome file glassFrom paneFrom trailerFrom
+          else refused PartOffsets trailerFrom
+      | noTrailer ↦ refused NoTrailer trailerFrom
     ]

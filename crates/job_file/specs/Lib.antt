@@ -1,8 +1,7 @@
 -- Document 01, "The job file" and "What each cause gives": the whole file.
 pub mod File
-pub mod Job
-pub mod Answer
--- What the layers above may count on of an accepted file.
+pub mod Entries
+pub mod CheckAnswer
+-- What the lists of an accepted file keep.
 pub mod Rules
--- What reading the trailer promises.
-pub mod Steps
+pub mod Internal

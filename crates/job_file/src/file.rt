@@ -13,7 +13,7 @@ ghost use mathlib.Core.Path.{_≡_};
 ghost use Prim.Native.Nat.{_≤_};
 ghost use lib.ListN.{length};
 ghost use Rattle.job_file.specs.File.{outcomeOf, partsOutcome, refused};
-ghost use Rattle.job_file.specs.Answer.{jobIn};
+ghost use Rattle.job_file.specs.Internal.Job.{jobIn};
 
 // The job of a file, or the first cause against it.
 pub fn read_job(file: &[u8]) -> Job

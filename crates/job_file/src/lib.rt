@@ -13,7 +13,7 @@ pub use job::JobNumbers;
 pub use job::numbers_of;
 ghost use mathlib.Core.Path.{_≡_};
 ghost use Rattle.job_file.specs.File.{outcomeOf};
-ghost use Rattle.job_file.specs.Answer.{says, answerOf};
+ghost use Rattle.job_file.specs.CheckAnswer.{checkedSays, checkAnswer};
 
 // The answer to a check: how many glasses and panes the file has, or why and where it is refused.
 pub enum Checked {
@@ -29,7 +29,7 @@ pub enum Checked {
 
 // Whether a file is accepted.
 pub fn check(file: &[u8]) -> Checked
-    ensures { λ r. ⌜ says r ≡ answerOf (outcomeOf (now (file .entry))) ⌝ }
+    ensures { λ r. ⌜ checkedSays r ≡ checkAnswer (outcomeOf (now (file .entry))) ⌝ }
 {
     read_job(file).checked
 }

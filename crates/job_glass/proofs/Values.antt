@@ -5,7 +5,7 @@ use native.Mathlib.Omega.{arith}
 use lib.Dec.{T, eqb, eqb→eq}
 use Rattle.basics.proofs.Tests.{and-iff, leb-iff, one-of}
 use Rattle.job_glass.specs.GlassLine.{allowedGlass}
-use Rattle.job_glass.specs.Values.{GlassValues}
+use Rattle.job_glass.specs.Internal.Values.{GlassValues}
 use Rattle.job_glass.specs.declared.Glass.{Glass}
 
 pub allowed-glass : (g : Glass) → T (allowedGlass g) → GlassValues g

@@ -1,4 +1,4 @@
--- Document 01, "The job file": "Glass: `G id kind thick w h two four stock`".
+-- Document 01, "The job file": the line of a glass, `G id kind thick w h two four stock`.
 use Prim.Native.Nat.{ℕ}
 use mathlib.Core.Bool.{Bool, false, _&&_, _||_}
 use mathlib.Core.List.{List}
@@ -21,9 +21,8 @@ glassOf ns = record {
   stock = getD ns 7 0;
 }
 
--- "id 1 to 9999; kind 1 laminated annealed, 2 laminated heat-strengthened, 3 laminated toughened, 4 monolithic toughened"
--- "thick (nominal mm) 6, 8, 10 or 12; sheet w and h 1 to 9999 mm"
--- "two, four: 1 to 99999, tenths of the span constant k1 ..; stock 0 to 999 sheets"
+-- The allowed values, number by number. Sides and thickness are in mm, the constants `two` and `four` in tenths of k1, and the
+-- stock in sheets.
 abbrev pub allowedGlass : Glass → Bool
 allowedGlass g =
     between 1 9999 (g .id)
@@ -35,7 +34,7 @@ allowedGlass g =
     && between 1 99999 (g .four)
     && leb (g .stock) 999
 
--- "At most 64 glass lines". Cause 7 is of panes alone.
+-- A glass line has the letter `G` and 8 numbers, and there are at most 64. Cause 7 is of panes alone.
 abbrev pub glassForm : Form Glass
 glassForm = record {
   letter = letterG;
@@ -47,6 +46,6 @@ glassForm = record {
   most = 64;
 }
 
--- What an entry of an array past its list holds: zeros.
+-- What stands where there is no glass: zeros.
 abbrev pub blankGlass : Glass
 blankGlass = record { id = 0; kind = 0; thick = 0; w = 0; h = 0; two = 0; four = 0; stock = 0 }

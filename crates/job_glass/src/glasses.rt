@@ -12,10 +12,10 @@ ghost use mathlib.Core.List.{List};
 ghost use Prim.Native.Nat.{ℕ, _+_, _≤_};
 ghost use lib.ListN.{length, take, drop};
 ghost use Rattle.job_glass.specs.GlassLine.{glassOf, allowedGlass, glassForm, blankGlass};
-ghost use Rattle.job_part.specs.Part.{judged, judgedEntry, partLines};
-ghost use Rattle.job_glass.specs.Steps.{GlassRead};
-ghost use Rattle.job_part.specs.Arrays.{PartRead};
-ghost use Rattle.ids.specs.IdSets.{IdSet};
+ghost use Rattle.job_part.specs.Part.{judged, judgedEntry};
+ghost use Rattle.job_glass.specs.Internal.Steps.{GlassRead};
+ghost use Rattle.job_part.specs.Internal.Arrays.{PartRead};
+ghost use Rattle.ids.specs.Internal.IdSets.{IdSet};
 
 // A glass line and the position behind it, or what is wrong with it.
 pub enum GlassLine {
@@ -38,8 +38,7 @@ pub const NO_GLASS: Glass = Glass {
 // The glass part, which begins at the file's offset `offset`.
 pub fn read_glasses(part: &[u8], offset: usize) -> GlassPart
     requires { ⌜ offset + length (now part) ≤ 65535 ⌝ }
-    ensures { λ r. ⌜ PartRead 64 blankGlass
-        (partLines glassForm (offset + length (now (part .entry))) (now (part .entry))) (r .glasses) (r .end) ⌝ }
+    ensures { λ r. ⌜ PartRead glassForm blankGlass (offset + length (now (part .entry))) (now (part .entry)) (r .glasses) (r .end) ⌝ }
 {
     let mut glasses = [NO_GLASS; 64];
     let mut seen = [0u64; 157];

@@ -8,7 +8,7 @@ use job_part::PartEnd;
 // A sheet of glass in the rack: a line `G id kind thick w h two four stock`.
 pub struct Glass {
     pub id: u32,
-    // 1 laminated annealed, 2 laminated heat-strengthened, 3 laminated toughened, 4 monolithic toughened
+    // laminated: 1 annealed, 2 heat-strengthened, 3 toughened; monolithic: 4 toughened
     pub kind: u32,
     // nominal, in mm
     pub thick: u32,

@@ -1,8 +1,8 @@
 -- Digits that are written are read back, and digits that are read were written. Reading takes the digits from the left,
 -- `v * 10 + d`; writing takes them from the right, `n / 10` and `n % 10`; one step of each undoes the other.
---     length-digits              how many digits are written
 --     written-digits             what is written for a number below `10 ^ count` is read as that number
 --     no-more-digits             reading ends where no digit follows
+--     digit-back                 writing takes off the digit that reading put on
 --     DigitsRead, digits-read    what was read, as digits that are written
 use Prim.Native.Nat.{ℕ, zero, suc, _+_, _-_, _*_, _/_, _%_, _^_, _≤_, _<_}
 use mathlib.Core.Path.{_≡_, refl, sym, _∙_, ap, ap₂}
@@ -11,17 +11,11 @@ use mathlib.Core.List.{List, [], _∷_, _++_, append-assoc}
 use native.Mathlib.Omega.{arith}
 use native.Mathlib.Nat.{pow-suc, add-suc, suc-add, mul-assoc}
 use lib.Dec.{leb}
-use lib.ListN.{length, length-append}
 use borrow.Author.Tests.{leb-true, le-leb}
 use Rattle.basics.specs.Choice.{if_then_else_}
 use Rattle.job_line.specs.Bytes.{next, found}
 use Rattle.job_line.specs.Number.{isDigit, digits}
 use Rattle.job_line.specs.WrittenNumber.{writtenDigits}
-
-pub length-digits : (count n : ℕ) → length (writtenDigits count n) ≡ count
-unfolding writtenDigits
-length-digits zero n = refl
-length-digits (suc count) n = simp (length-append, length-digits count (n / 10)) (omega arith)
 
 one-digit :
     (left v b : ℕ) (rest : List ℕ) → 48 ≤ b → b ≤ 57 →
@@ -57,7 +51,7 @@ pub record DigitsRead (left sofar v : ℕ) (bytes : List ℕ) (w : ℕ) (rest : 
   pub low : 10 ^ sofar ≤ v * 10 → 10 ^ size ≤ w * 10
 
 -- Writing takes the digit off again that reading put on.
-digit-back :
+pub digit-back :
     (sofar v b : ℕ) (rest : List ℕ) → 48 ≤ b → b ≤ 57 →
     writtenDigits (suc sofar) (v * 10 + (b - 48)) ++ rest ≡ writtenDigits sofar v ++ (b ∷ rest)
 unfolding writtenDigits

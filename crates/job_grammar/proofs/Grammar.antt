@@ -5,7 +5,7 @@ use Prim.Native.Nat.{ℕ, _+_, _-_}
 use mathlib.Core.Path.{_≡_}
 use mathlib.Core.List.{List, _++_}
 use native.Mathlib.Omega.{arith}
-use lib.ListN.{length, take, drop, length-drop}
+use lib.ListN.{length, take, drop}
 use lib.Seq.{length-take-le}
 use Rattle.job_file.specs.File.{part, accepted, outcomeOf}
 use Rattle.job_glass.specs.declared.Glass.{Glass}
@@ -50,9 +50,7 @@ module _ (file : List ℕ) (gs : List Glass) (ps : List Pane) (a : Accepted file
   wrote-panes = panes-read (length file - 14) _ ps (a .pane-part)
 
   wrote-trailer : drop (length file - 14) file ≡ writtenTrailer (a .glass) (a .pane)
-  wrote-trailer =
-      let short = a .shortest in
-      trailer-read (drop (length file - 14) file) (a .glass) (a .pane) (simp length-drop (omega arith)) (a .trailer-says)
+  wrote-trailer = trailer-read (drop (length file - 14) file) (a .glass) (a .pane) (a .trailer-says)
 
   at-glass : length (take (a .glass) file) ≡ a .glass
   at-glass = length-take-le (a .glass) file (omega arith)

@@ -7,4 +7,3 @@ pub mod Forms
 pub mod Trailer
 pub mod Offsets
 pub mod Grammar
-pub mod Examples

@@ -1,6 +1,5 @@
 -- A line that is written is read back, and a line that is read was written: number after number, each behind a space, which
 -- is no digit and so ends the number before it.
---     next-is         a byte that comes next is the first
 --     Small           numbers up to 99999
 --     written-line    what is written for numbers up to 99999 is read as those numbers
 --     line-read       what is read as numbers is what is written for them, and they are as many as asked for
@@ -13,7 +12,7 @@ use lib.Dec.{leb, eqb, leb→le}
 use lib.ListN.{length}
 use borrow.Author.Tests.{eqb-true, eq-eqb}
 use Rattle.basics.specs.Choice.{if_then_else_}
-use Rattle.job_line.specs.Bytes.{newline, space, next, after, Found, found, nothing}
+use Rattle.job_line.specs.Bytes.{newline, space, next, behind, Found, found, nothing}
 use Rattle.job_line.specs.Number.{isDigit, number}
 use Rattle.job_line.specs.Line.{numbers, ended, line}
 use Rattle.job_part.specs.Rules.{Every}
@@ -26,7 +25,7 @@ abbrev pub Small : List ℕ → Type 0
 Small ns = Every (λ n. leb n 99999) ns
 
 -- A byte other than 0 that comes next is the first of the bytes.
-pub next-is : (b : ℕ) (bytes : List ℕ) → 0 < b → eqb (next bytes) b ≡ true → bytes ≡ b ∷ after bytes
+next-is : (b : ℕ) (bytes : List ℕ) → 0 < b → eqb (next bytes) b ≡ true → bytes ≡ b ∷ behind bytes
 next-is b [] h e = absurd (omega (arith, eqb-true 0 b e))
 next-is b (c ∷ bytes) h e = rw (eqb-true c b e)
 
@@ -70,7 +69,7 @@ numbers-read zero before bytes ns rest e = record { more = []; behind = append-n
 numbers-read (suc left) before bytes ns rest e =
     go (λ n tail. numbers-read left (before ++ (n ∷ [])) tail ns rest)
     (eqb (next bytes) space)
-    (number (after bytes))
+    (number (behind bytes))
     refl
     refl
     e
@@ -78,7 +77,7 @@ numbers-read (suc left) before bytes ns rest e =
     go :
         ((n : ℕ) (tail : List ℕ) → numbers left (before ++ (n ∷ [])) tail ≡ found ns rest →
         NumbersRead left (before ++ (n ∷ [])) tail ns rest) →
-        (t : Bool) (f : Found ℕ) → eqb (next bytes) space ≡ t → number (after bytes) ≡ f →
+        (t : Bool) (f : Found ℕ) → eqb (next bytes) space ≡ t → number (behind bytes) ≡ f →
         (if t
         then elim f [
           | found n tail ↦ numbers left (before ++ (n ∷ [])) tail
@@ -95,7 +94,7 @@ numbers-read (suc left) before bytes ns rest e =
           were =
               next-is space bytes (omega arith) p
               ∙ ap (λ l. space ∷ l)
-              (number-read (after bytes) n tail q
+              (number-read (behind bytes) n tail q
               ∙ ap (λ l. writtenNumber n ++ l) (r .were)
               ∙ sym (append-assoc (writtenNumber n) (writtenNumbers (r .more)) rest));
         }
@@ -115,7 +114,7 @@ ended-read count bytes ns rest e = go (numbers count [] bytes) refl e
     go (found ms tail) q f = step (eqb (next tail) newline) refl f
       where
         step :
-            (t : Bool) → eqb (next tail) newline ≡ t → (if t then found ms (after tail) else nothing) ≡ found ns rest →
+            (t : Bool) → eqb (next tail) newline ≡ t → (if t then found ms (behind tail) else nothing) ≡ found ns rest →
             (bytes ≡ writtenNumbers ns ++ (newline ∷ rest)) × (length ns ≡ count)
         step true p g =
             let r = numbers-read count [] bytes ms tail q in
@@ -134,9 +133,9 @@ line-read letter count bytes ns rest h = go (eqb (next bytes) letter) refl
   where
     go :
         (t : Bool) → eqb (next bytes) letter ≡ t →
-        (if t then ended (numbers count [] (after bytes)) else nothing) ≡ found ns rest →
+        (if t then ended (numbers count [] (behind bytes)) else nothing) ≡ found ns rest →
         (bytes ≡ writtenLine letter ns ++ rest) × (length ns ≡ count)
     go true p f =
-        let r = ended-read count (after bytes) ns rest f in
+        let r = ended-read count (behind bytes) ns rest f in
         (next-is letter bytes h p ∙ rw (r .0, append-assoc), r .1)
     go false p f = clash (cc)

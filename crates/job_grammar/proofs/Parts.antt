@@ -16,6 +16,7 @@ use Rattle.ids.specs.Ids.{Distinct}
 use Rattle.job_part.specs.Rules.{Every, PartRules}
 use Rattle.ids.proofs.Distinct.{distinct-new}
 use Rattle.job_part.proofs.Kept.{Taken, taken-is, keep}
+use Rattle.job_part.proofs.Parts.{lines-end}
 use Rattle.job_grammar.specs.Written.{writtenLine, writtenPart}
 use Rattle.job_grammar.proofs.Line.{Small, written-line, line-read}
 
@@ -67,8 +68,7 @@ module _ {A : Type 0} (form : Form A) (numbersOf : A → List ℕ) (writer : Wri
       Distinct (map (form .id) (earlier ++ xs)) →
       lines form end left earlier (writtenPart (writtenEntry form numbersOf) xs) ≡ whole (earlier ++ xs)
   unfolding lines writtenPart writtenLine Every
-  written-lines zero earlier [] l h fair apart = rw append-nil
-  written-lines (suc left) earlier [] l h fair apart = rw append-nil
+  written-lines left earlier [] l h fair apart = rw append-nil (lines-end form end left earlier .0)
   written-lines zero earlier (x ∷ xs) l h fair apart = absurd (omega arith)
   written-lines (suc left) earlier (x ∷ xs) l h fair apart =
       let rest = writtenPart (writtenEntry form numbersOf) xs in
@@ -101,12 +101,12 @@ module _ {A : Type 0} (form : Form A) (numbersOf : A → List ℕ) (writer : Wri
       Wrote left earlier rest = writtenPart written earlier ++ rest ≡ bytes
 
       step :
-          (left : ℕ) (earlier : List A) (bytes : List ℕ) (x : A) (rest : List ℕ) →
-          Wrote (suc left) earlier bytes →
-          Taken form earlier bytes x rest →
+          (left : ℕ) (earlier : List A) (b : ℕ) (bytes : List ℕ) (x : A) (rest : List ℕ) →
+          Wrote (suc left) earlier (b ∷ bytes) →
+          Taken form earlier (b ∷ bytes) x rest →
           Wrote left (earlier ++ (x ∷ [])) rest
-      step left earlier bytes x rest w t =
-          let r = line-read (form .letter) (form .count) bytes (t .numbers) rest (writer .letter-is) (t .read) in
+      step left earlier b bytes x rest w t =
+          let r = line-read (form .letter) (form .count) (b ∷ bytes) (t .numbers) rest (writer .letter-is) (t .read) in
           let ns : numbersOf x ≡ t .numbers = rw (← t .says) (writer .of-entry (t .numbers) (r .1)) in
           written-snoc written earlier x rest
           ∙ ap (λ l. writtenPart written earlier ++ l) (rw (ns, ← r .0))

@@ -1,4 +1,4 @@
--- The front page: the reading definition and the grammar agree. `proofs/Grammar.antt` proves each statement.
+-- The reading definition and the grammar agree. `proofs/Grammar.antt` proves each statement.
 --     Complete   what is written for lists within the rules is accepted, and reads back as exactly those lists
 --     Sound      of an accepted file, the parts are exactly what is written for the lists that were read, which keep the rules
 --     Unique     a file is accepted exactly when it is written for some notes and lists within the rules, and then for one
@@ -14,7 +14,7 @@ use Rattle.job_glass.specs.declared.Glass.{Glass}
 use Rattle.job_pane.specs.declared.Pane.{Pane}
 use Rattle.job_grammar.specs.Written.{writtenGlass, writtenPane, writtenPart, writtenFile}
 
--- A file is written for some notes and these lists, within the rules and "at most 65,535 bytes".
+-- A file is written for some notes and these lists, which keep the rules, and is not too long.
 pub record IsWritten (file : List ℕ) (glasses : List Glass) (panes : List Pane) : Type 0 where
   pub notes : List ℕ
   pub bytes : file ≡ writtenFile notes glasses panes

@@ -1,5 +1,3 @@
 -- What a job file is, as what is written, and how that and the reading definition agree.
 pub mod Grammar
 pub mod Written
--- The files of the bench examples.
-pub mod Examples

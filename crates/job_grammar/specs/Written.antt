@@ -8,30 +8,30 @@ use Rattle.job_line.specs.WrittenNumber.{writtenDigits, writtenNumbers}
 use Rattle.job_glass.specs.declared.Glass.{Glass}
 use Rattle.job_pane.specs.declared.Pane.{Pane}
 
--- "A line is a letter and then numbers", "ended by a newline".
+-- A line, from its letter to its newline.
 unfoldable pub writtenLine : ℕ → List ℕ → List ℕ
 writtenLine letter ns = letter ∷ writtenNumbers ns ++ (newline ∷ [])
 
--- "Glass: `G id kind thick w h two four stock`"
+-- The numbers of a glass, in the order of its line.
 abbrev pub glassNumbers : Glass → List ℕ
 glassNumbers g = g .id ∷ g .kind ∷ g .thick ∷ g .w ∷ g .h ∷ g .two ∷ g .four ∷ g .stock ∷ []
 
 unfoldable pub writtenGlass : Glass → List ℕ
 writtenGlass g = writtenLine letterG (glassNumbers g)
 
--- "Pane: `P id edges angle awning top w h down up`"
+-- The numbers of a pane.
 abbrev pub paneNumbers : Pane → List ℕ
 paneNumbers p = p .id ∷ p .edges ∷ p .angle ∷ p .awning ∷ p .top ∷ p .w ∷ p .h ∷ p .down ∷ p .up ∷ []
 
 unfoldable pub writtenPane : Pane → List ℕ
 writtenPane p = writtenLine letterP (paneNumbers p)
 
--- "zero or more lines"
+-- A part: line after line.
 unfoldable pub writtenPart : {A : Type 0} → (A → List ℕ) → List A → List ℕ
 writtenPart written [] = []
 writtenPart written (x ∷ xs) = written x ++ writtenPart written xs
 
--- "`T`, space, five digits, space, five digits, newline (byte 10)"
+-- The trailer, with five digits for each offset.
 unfoldable pub writtenTrailer : ℕ → ℕ → List ℕ
 writtenTrailer glass pane =
     letterT ∷ space ∷ writtenDigits 5 glass ++ (space ∷ writtenDigits 5 pane ++ (newline ∷ []))

@@ -16,9 +16,9 @@ use native.Mathlib.Omega.{arith}
 use lib.Dec.{leb}
 use lib.ListN.{length, drop}
 use borrow.Author.Tests.{leb-true}
-use Rattle.job_line.specs.Bytes.{next, after, Found, found}
+use Rattle.job_line.specs.Bytes.{next, behind, Found, found}
 use Rattle.job_line.specs.Number.{isDigit, digits}
-use Rattle.job_line.proofs.Positions.{after-drop, within}
+use Rattle.job_line.proofs.Positions.{behind-drop, within}
 
 pub digit-low : (b : ℕ) → isDigit b ≡ true → 48 ≤ b
 digit-low b e = leb-true 48 b (and-eq-true-iff (leb 48 b) (leb b 57) .0 e .0)
@@ -27,7 +27,7 @@ pub digit-high : (b : ℕ) → isDigit b ≡ true → b ≤ 57
 digit-high b e = leb-true b 57 (and-eq-true-iff (leb 48 b) (leb b 57) .0 e .1)
 
 pub digits-more : (left v : ℕ) (bytes : List ℕ) → 0 < left → isDigit (next bytes) ≡ true →
-    digits left v bytes ≡ digits (left - 1) (v * 10 + (next bytes - 48)) (after bytes)
+    digits left v bytes ≡ digits (left - 1) (v * 10 + (next bytes - 48)) (behind bytes)
 unfolding digits
 digits-more zero v bytes h e = absurd (omega arith)
 digits-more (suc left) v bytes h e =
@@ -78,7 +78,7 @@ module _ (s : List ℕ) (asked : Found ℕ) (value at left : ℕ) (begun : Begun
       let high : b ≤ 57 = digit-high b digit in
       let here : at < length s = within s at (rw (← is) (omega arith)) in
       record {
-        rest = rw (worth, is, ← after-drop s at) (sym (digits-more left value (drop at s) some (rw (← is) digit)) ∙ begun .rest);
+        rest = rw (worth, is, ← behind-drop s at) (sym (digits-more left value (drop at s) some (rw (← is) digit)) ∙ begun .rest);
         few = omega arith;
         small = tenfold left value d some (begun .few) (begun .small) (omega arith);
         inside = omega arith;

@@ -13,7 +13,7 @@ use lib.ListN.{length, drop}
 use borrow.Author.Tests.{eq-eqb, ne-eqb}
 use Rattle.job_line.specs.Bytes.{next, found, nothing}
 use Rattle.job_line.specs.Number.{isDigit, digits, number}
-use Rattle.job_line.proofs.Positions.{after-drop, within}
+use Rattle.job_line.proofs.Positions.{behind-drop, within}
 use Rattle.job_line.proofs.Digits.{digit-low}
 
 module _ (s : List ℕ) (at b : ℕ) (is : b ≡ next (drop at s)) where
@@ -29,11 +29,11 @@ module _ (s : List ℕ) (at b : ℕ) (is : b ≡ next (drop at s)) where
 
   pub number-zero : b ≡ 48 → (number (drop at s) ≡ found 0 (drop (at + 1) s)) × (at + 1 ≤ length s)
   unfolding number
-  number-zero zero-byte = (rw (← is, eq-eqb b 48 zero-byte, after-drop), byte-within (omega arith))
+  number-zero zero-byte = (rw (← is, eq-eqb b 48 zero-byte, behind-drop), byte-within (omega arith))
 
   pub number-more : (v : ℕ) → (b ≡ 48 → ⊥) → isDigit b ≡ true → v ≡ b - 48 → number (drop at s) ≡ digits 4 v (drop (at + 1) s)
   unfolding number
-  number-more v other digit worth = rw (worth, ← is, ne-eqb b 48 other, digit, after-drop)
+  number-more v other digit worth = rw (worth, ← is, ne-eqb b 48 other, digit, behind-drop)
 
   pub number-none : (b ≡ 48 → ⊥) → isDigit b ≡ false → number (drop at s) ≡ nothing
   unfolding number

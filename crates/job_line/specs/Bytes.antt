@@ -1,5 +1,8 @@
 -- Bytes, and how a definition takes them one after the other from the front of a list.
 use Prim.Native.Nat.{ℕ}
+use Prim.Native.Char.{code}
+use Prim.Native.String.{String}
+use Prim.Native.String
 use mathlib.Core.List.{List, [], _∷_}
 
 -- The bytes that the format names.
@@ -7,22 +10,27 @@ abbrev pub newline : ℕ
 newline = 10
 
 abbrev pub space : ℕ
-space = 32
+space = code " "
 
 abbrev pub digit0 : ℕ
-digit0 = 48
+digit0 = code "0"
 
 abbrev pub digit9 : ℕ
-digit9 = 57
+digit9 = code "9"
 
 abbrev pub letterG : ℕ
-letterG = 71
+letterG = code "G"
 
 abbrev pub letterP : ℕ
-letterP = 80
+letterP = code "P"
 
 abbrev pub letterT : ℕ
-letterT = 84
+letterT = code "T"
+
+-- The bytes of a text of plain characters.
+abbrev pub bytesOf : String → List ℕ
+bytesOf String.[] = []
+bytesOf (String._∷_ c s) = code c ∷ bytesOf s
 
 -- The byte that comes next; 0, which is none of those above, where no byte is left.
 abbrev pub next : List ℕ → ℕ
@@ -30,9 +38,9 @@ next [] = 0
 next (b ∷ bytes) = b
 
 -- The bytes after that one.
-abbrev pub after : List ℕ → List ℕ
-after [] = []
-after (b ∷ bytes) = bytes
+abbrev pub behind : List ℕ → List ℕ
+behind [] = []
+behind (b ∷ bytes) = bytes
 
 -- What reading at the front of some bytes gives: what was found there and the bytes after it, or nothing.
 pub data Found (A : Type 0) : Type 0 where

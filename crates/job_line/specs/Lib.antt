@@ -4,5 +4,4 @@ pub mod Number
 pub mod Line
 -- How numbers are written.
 pub mod WrittenNumber
--- What reading at a position promises.
-pub mod Steps
+pub mod Internal

@@ -1,18 +1,17 @@
--- Document 01, "The job file": "A line is a letter and then numbers, with one space before each number."
--- "Each part .. is zero or more lines, each ended by a newline." "No number may be missing."
+-- Document 01, "The job file": a line, from its letter to its newline, with as many numbers as its form has.
 use Prim.Native.Nat.{ℕ, zero, suc}
 use mathlib.Core.List.{List, [], _∷_, _++_}
 use lib.Dec.{eqb}
 use Rattle.basics.specs.Choice.{if_then_else_}
-use Rattle.job_line.specs.Bytes.{newline, space, next, after, Found, found, nothing}
+use Rattle.job_line.specs.Bytes.{newline, space, next, behind, Found, found, nothing}
 use Rattle.job_line.specs.Number.{number}
 
--- The next `left` numbers, one space before each, behind those `before` them on the line.
-unfoldable pub numbers : ℕ → List ℕ → List ℕ → Found (List ℕ)
+-- The numbers of a line, one space before each. `before` are those already read, and `left` is how many are still to come.
+unfoldable pub numbers : (left : ℕ) (before bytes : List ℕ) → Found (List ℕ)
 numbers zero before bytes = found before bytes
 numbers (suc left) before bytes =
     if eqb (next bytes) space
-    then elim (number (after bytes)) [
+    then elim (number (behind bytes)) [
       | found n rest ↦ numbers left (before ++ (n ∷ [])) rest
       | nothing ↦ nothing
     ]
@@ -20,9 +19,9 @@ numbers (suc left) before bytes =
 
 -- The newline that ends a line, behind its numbers.
 unfoldable pub ended : Found (List ℕ) → Found (List ℕ)
-ended (found ns bytes) = if eqb (next bytes) newline then found ns (after bytes) else nothing
+ended (found ns bytes) = if eqb (next bytes) newline then found ns (behind bytes) else nothing
 ended nothing = nothing
 
 -- A line of `letter` and `count` numbers: the numbers, and the bytes after the newline.
-unfoldable pub line : ℕ → ℕ → List ℕ → Found (List ℕ)
-line letter count bytes = if eqb (next bytes) letter then ended (numbers count [] (after bytes)) else nothing
+unfoldable pub line : (letter count : ℕ) (bytes : List ℕ) → Found (List ℕ)
+line letter count bytes = if eqb (next bytes) letter then ended (numbers count [] (behind bytes)) else nothing

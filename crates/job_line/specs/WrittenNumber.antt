@@ -1,5 +1,4 @@
--- How numbers are written: document 01, "The job file", from the writer's side, and "The program `canopy`", "printed numbers
--- have no leading zero".
+-- How numbers are written, in job files and in the text of `canopy`: document 01, "The job file" and "The program `canopy`".
 use Prim.Native.Nat.{ℕ, zero, suc, _+_, _/_, _%_}
 use mathlib.Core.List.{List, [], _∷_, _++_}
 use lib.Dec.{ltb}
@@ -20,11 +19,11 @@ digitCount n =
     else if ltb n 10000 then 4
     else 5
 
--- "A number has one to five decimal digits and no leading zero, except `0` itself."
+-- A number with no zeros in front. Ids, counts and offsets are all at most 99999.
 unfoldable pub writtenNumber : ℕ → List ℕ
 writtenNumber n = writtenDigits (digitCount n) n
 
--- "one space before each number"
+-- Numbers, a space before each.
 unfoldable pub writtenNumbers : List ℕ → List ℕ
 writtenNumbers [] = []
 writtenNumbers (n ∷ ns) = space ∷ writtenNumber n ++ writtenNumbers ns

@@ -1,11 +1,9 @@
-// Numbers and lines of a job file: document 01, "The job file". Whoever reads a part or a trailer calls these; the calls for
-// the outside, which ask nothing, are job_file's.
+// Numbers and lines of a job file: document 01, "The job file". Whoever reads a part calls `read_line`; the calls for the
+// outside, which ask nothing, are job_file's.
 mod line;
 mod number;
 
 pub use line::read_line;
-pub use number::byte_at;
-pub use number::read_digits;
 
 // A number and the position behind its last digit.
 pub enum NumberAt {

@@ -5,11 +5,12 @@ use crate::number::byte_at;
 use crate::number::read_number;
 ghost use mathlib.Core.Path.{_≡_};
 ghost use Prim.Native.Nat.{_≤_};
-ghost use lib.ListN.{length, drop};
-ghost use Rattle.job_line.specs.Line.{line};
-ghost use Rattle.job_line.specs.Steps.{LineRead};
+ghost use lib.ListN.{length};
+ghost use Rattle.basics.specs.Lent.{lent};
+ghost use Rattle.job_line.specs.Internal.Steps.{LineRead};
 
-// The line of `letter` and `count` numbers at a position. Its numbers are written to the front of an array.
+// The line of `letter` and `count` numbers at a position. Its numbers are written to the front of an array; where there is no
+// line, those before its first fault. Later entries stay as they are.
 pub fn read_line(
     s: &[u8],
     start: usize,
@@ -18,7 +19,7 @@ pub fn read_line(
     numbers: &mut [u32; 9],
 ) -> LineEnd
     requires { ⌜ (1 ≤ letter) × (count ≤ 9) × (length (now numbers) ≡ 9) ⌝ }
-    ensures { λ r. ⌜ LineRead (now (s .entry)) count (line letter count (drop start (now (s .entry)))) (now (numbers .exit)) r ⌝ }
+    ensures { λ r. ⌜ LineRead (now (s .entry)) start letter count (lent (now (numbers .entry)) (now (numbers .exit))) r ⌝ }
 {
     if byte_at(s, start) != letter {
         return LineEnd::NotALine;

@@ -6,7 +6,7 @@ ghost use Prim.Native.Nat.{_-_, _^_, _<_, _≤_};
 ghost use lib.ListN.{length, drop};
 ghost use Rattle.job_line.specs.Bytes.{next};
 ghost use Rattle.job_line.specs.Number.{isDigit, digits, number};
-ghost use Rattle.job_line.specs.Steps.{NumberRead};
+ghost use Rattle.job_line.specs.Internal.Steps.{NumberRead};
 
 // The number at a position.
 pub(crate) fn read_number(s: &[u8], at: usize) -> NumberAt
@@ -24,7 +24,7 @@ pub(crate) fn read_number(s: &[u8], at: usize) -> NumberAt
 }
 
 // The digits at a position, at most `most` of them, behind 5 - most digits that make `begun`.
-pub fn read_digits(s: &[u8], start: usize, begun: u32, most: usize) -> NumberAt
+fn read_digits(s: &[u8], start: usize, begun: u32, most: usize) -> NumberAt
     requires { ⌜ (most ≤ 5) × (begun < 10 ^ (5 - most)) × (start ≤ length (now s)) ⌝ }
     ensures { λ r. ⌜ NumberRead (now (s .entry)) (digits most begun (drop start (now (s .entry)))) r ⌝ }
 {
@@ -45,7 +45,7 @@ pub fn read_digits(s: &[u8], start: usize, begun: u32, most: usize) -> NumberAt
 }
 
 // The byte at a position; 0 past the end.
-pub fn byte_at(s: &[u8], at: usize) -> u8
+pub(crate) fn byte_at(s: &[u8], at: usize) -> u8
     ensures { λ r. ⌜ r ≡ next (drop at (now (s .entry))) ⌝ }
 {
     if at < s.len() { s[at] } else { 0 }

@@ -1,4 +1,4 @@
--- Document 01, "The job file": "Pane: `P id edges angle awning top w h down up`".
+-- Document 01, "The job file": the line of a pane, `P id edges angle awning top w h down up`.
 use Prim.Native.Nat.{ℕ, _*_, min, max}
 use mathlib.Core.Bool.{Bool, _&&_, _||_}
 use mathlib.Core.List.{List}
@@ -22,10 +22,7 @@ paneOf ns = record {
   up = getD ns 8 0;
 }
 
--- "id 1 to 9999; edges 2 or 4; angle 0 to 74 whole degrees from horizontal; awning 0 or 1; top 0 to 99999, height in mm of
--- the highest part above the floor"
--- "w and h 1 to 5000 mm, sight size"
--- "down and up 0 to 1000, ultimate wind pressure in units of 0.01 kPa"
+-- The allowed values, number by number. The angle is in degrees, lengths are in mm, and wind pressures in units of 0.01 kPa.
 abbrev pub allowedPane : Pane → Bool
 allowedPane p =
     between 1 9999 (p .id)
@@ -38,11 +35,11 @@ allowedPane p =
     && leb (p .down) 1000
     && leb (p .up) 1000
 
--- Cause 7: "four-edge pane, longer side over 3 times the shorter".
+-- Cause 7, of a pane with four edges: too long for its width.
 abbrev pub tooLongPane : Pane → Bool
 tooLongPane p = eqb (p .edges) 4 && ltb (3 * min (p .w) (p .h)) (max (p .w) (p .h))
 
--- "At most .. 256 pane lines".
+-- A pane line has the letter `P` and 9 numbers, and there are at most 256.
 abbrev pub paneForm : Form Pane
 paneForm = record {
   letter = letterP;
@@ -54,6 +51,6 @@ paneForm = record {
   most = 256;
 }
 
--- What an entry of an array past its list holds: zeros.
+-- What stands where there is no pane: zeros.
 abbrev pub blankPane : Pane
 blankPane = record { id = 0; edges = 0; angle = 0; awning = 0; top = 0; w = 0; h = 0; down = 0; up = 0 }

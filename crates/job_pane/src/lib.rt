@@ -17,9 +17,9 @@ pub struct Pane {
     pub angle: u32,
     // 1 on an awning
     pub awning: u32,
-    // height in mm of the highest part above the floor
+    // how high above the floor the pane reaches, in mm
     pub top: u32,
-    // the sight size, in mm; with two edges, w is the distance between the supports
+    // the sight size, in mm; w lies between the supports where there are two
     pub w: u32,
     pub h: u32,
     // ultimate wind pressures, in units of 0.01 kPa

@@ -14,10 +14,10 @@ ghost use mathlib.Core.List.{List};
 ghost use Prim.Native.Nat.{ℕ, _+_, _≤_};
 ghost use lib.ListN.{length, take, drop};
 ghost use Rattle.job_pane.specs.PaneLine.{paneOf, allowedPane, tooLongPane, paneForm, blankPane};
-ghost use Rattle.job_part.specs.Part.{judged, judgedEntry, partLines};
-ghost use Rattle.job_pane.specs.Steps.{PaneRead};
-ghost use Rattle.job_part.specs.Arrays.{PartRead};
-ghost use Rattle.ids.specs.IdSets.{IdSet};
+ghost use Rattle.job_part.specs.Part.{judged, judgedEntry};
+ghost use Rattle.job_pane.specs.Internal.Steps.{PaneRead};
+ghost use Rattle.job_part.specs.Internal.Arrays.{PartRead};
+ghost use Rattle.ids.specs.Internal.IdSets.{IdSet};
 
 // A pane line and the position behind it, or what is wrong with it.
 pub enum PaneLine {
@@ -41,8 +41,7 @@ pub const NO_PANE: Pane = Pane {
 // The pane part, which begins at the file's offset `offset`.
 pub fn read_panes(part: &[u8], offset: usize) -> PanePart
     requires { ⌜ offset + length (now part) ≤ 65535 ⌝ }
-    ensures { λ r. ⌜ PartRead 256 blankPane
-        (partLines paneForm (offset + length (now (part .entry))) (now (part .entry))) (r .panes) (r .end) ⌝ }
+    ensures { λ r. ⌜ PartRead paneForm blankPane (offset + length (now (part .entry))) (now (part .entry)) (r .panes) (r .end) ⌝ }
 {
     let mut panes = [NO_PANE; 256];
     let mut seen = [0u64; 157];
@@ -137,7 +136,7 @@ fn is_allowed(p: Pane) -> bool
         & (p.up <= 1000)
 }
 
-// Whether a four-edge pane's longer side is over 3 times the shorter (cause 7).
+// Whether a pane with four edges is too long for its width (cause 7).
 fn is_too_long(p: Pane) -> bool
     ensures { λ r. ⌜ r ≡ tooLongPane p ⌝ }
 {

@@ -21,11 +21,15 @@ module _ {A : Type 0} (form : Form A) (ids : List ℕ) (x : A) (rest : List ℕ)
   unfolding judgedEntry
   entry-repeated good seen = rw (good, seen)
 
-  pub entry-long : form .allowed x ≡ true → among (form .id x) ids ≡ false → form .tooLong x ≡ true → judgedEntry form ids x rest ≡ faulty TooLong
+  pub entry-long :
+      form .allowed x ≡ true → among (form .id x) ids ≡ false → form .tooLong x ≡ true →
+      judgedEntry form ids x rest ≡ faulty TooLong
   unfolding judgedEntry
   entry-long good new long = rw (good, new, long)
 
-  pub entry-taken : form .allowed x ≡ true → among (form .id x) ids ≡ false → form .tooLong x ≡ false → judgedEntry form ids x rest ≡ taken x rest
+  pub entry-taken :
+      form .allowed x ≡ true → among (form .id x) ids ≡ false → form .tooLong x ≡ false →
+      judgedEntry form ids x rest ≡ taken x rest
   unfolding judgedEntry
   entry-taken good new short = rw (good, new, short)
 
@@ -34,6 +38,8 @@ module _ {A : Type 0} (form : Form A) (ids bytes : List ℕ) where
   unfolding judged
   line-form none = rw (none, judged)
 
-  pub line-entry : (ns rest : List ℕ) → line (form .letter) (form .count) bytes ≡ found ns rest → judged form ids bytes ≡ judgedEntry form ids (form .entry ns) rest
+  pub line-entry :
+      (ns rest : List ℕ) → line (form .letter) (form .count) bytes ≡ found ns rest →
+      judged form ids bytes ≡ judgedEntry form ids (form .entry ns) rest
   unfolding judged
   line-entry ns rest one = rw (one, judged)

@@ -89,21 +89,25 @@ module _ {A : Type 0} (form : Form A) where
   module _
       (P : ℕ → List A → List ℕ → Type 0)
       (step :
-      (left : ℕ) (earlier : List A) (bytes : List ℕ) (x : A) (rest : List ℕ) →
-      P (suc left) earlier bytes →
-      Taken form earlier bytes x rest →
+      (left : ℕ) (earlier : List A) (b : ℕ) (bytes : List ℕ) (x : A) (rest : List ℕ) →
+      P (suc left) earlier (b ∷ bytes) →
+      Taken form earlier (b ∷ bytes) x rest →
       P left (earlier ++ (x ∷ [])) rest)
       (end : ℕ)
     where
+      -- where no byte is left
+      kept : (left : ℕ) (earlier xs : List A) → whole earlier ≡ whole xs → P left earlier [] → (last : ℕ) × P last xs []
+      kept left earlier xs e p = (left, subst (λ l. P left l []) (cc) p)
+
       pub keep :
           (left : ℕ) (earlier : List A) (bytes : List ℕ) (xs : List A) →
           lines form end left earlier bytes ≡ whole xs →
           P left earlier bytes →
           (last : ℕ) × P last xs []
       unfolding lines
-      keep zero earlier [] xs e p = (0, subst (λ l. P 0 l []) (cc) p)
+      keep zero earlier [] xs e p = kept zero earlier xs e p
       keep zero earlier (b ∷ bytes) xs e p = clash (cc)
-      keep (suc left) earlier [] xs e p = (suc left, subst (λ l. P (suc left) l []) (cc) p)
+      keep (suc left) earlier [] xs e p = kept (suc left) earlier xs e p
       keep (suc left) earlier (b ∷ bytes) xs e p =
           go (λ x rest. keep left (earlier ++ (x ∷ [])) rest xs) (judged form (map (form .id) earlier) (b ∷ bytes)) refl e
         where
@@ -118,6 +122,5 @@ module _ {A : Type 0} (form : Form A) where
                 | faulty cause ↦ stopped cause (end - length (b ∷ bytes))
               ] ≡ whole xs →
               (last : ℕ) × P last xs []
-          go next (taken x rest) q f =
-              next x rest f (step left earlier (b ∷ bytes) x rest p (taken-was earlier (b ∷ bytes) x rest q))
+          go next (taken x rest) q f = next x rest f (step left earlier b bytes x rest p (taken-was earlier (b ∷ bytes) x rest q))
           go next (faulty cause) q f = clash (cc)

@@ -37,9 +37,9 @@ module _ {A : Type 0} (form : Form A) where
       }
     where
       step :
-          (left : ℕ) (xs : List A) (bytes : List ℕ) (x : A) (rest : List ℕ) →
-          SoFar (suc left) xs → Taken form xs bytes x rest → SoFar left (xs ++ (x ∷ []))
-      step left xs bytes x rest h t = record {
+          (left : ℕ) (xs : List A) (b : ℕ) (bytes : List ℕ) (x : A) (rest : List ℕ) →
+          SoFar (suc left) xs → Taken form xs (b ∷ bytes) x rest → SoFar left (xs ++ (x ∷ []))
+      step left xs b bytes x rest h t = record {
         at-most = simp length-append (omega (arith, h .at-most));
         allowed = every-snoc (form .allowed) xs x (h .allowed) (t .allowed);
         distinct =

@@ -5,3 +5,5 @@ pub mod Lists
 -- What every taken line keeps, a whole part keeps.
 pub mod Kept
 pub mod Laws
+-- What a caller learns of a part that was read.
+pub mod Ends

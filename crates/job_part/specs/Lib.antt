@@ -2,5 +2,4 @@
 pub mod Part
 -- What the entries of a part that is read whole keep.
 pub mod Rules
--- What reading a part promises.
-pub mod Arrays
+pub mod Internal

@@ -1,8 +1,7 @@
--- Document 01, "The job file": "Each part, taken from its offset to its end, is zero or more lines, each ended by a newline."
--- "What each cause gives": "lines in file order, and within a line 8, 4, 5, 6, 7".
--- The two parts differ in what a `Form` has, and in nothing else.
+-- Document 01, "The job file" and "What each cause gives", rows 4 to 8: a part and its lines, which are judged one after the other.
+-- The glass part and the pane part differ in what a `Form` has, and in nothing else.
 use Prim.Native.Nat.{ℕ, zero, suc, _-_}
-use mathlib.Core.Bool.{Bool, not, _&&_}
+use mathlib.Core.Bool.{Bool, true, false, not, _&&_}
 use mathlib.Core.List.{List, [], _∷_, _++_, map}
 use lib.Dec.{leb}
 use lib.ListN.{length}
@@ -23,12 +22,12 @@ pub record Form (A : Type 0) : Type 0 where
   pub id : A → ℕ
   -- each number is among its allowed values
   pub allowed : A → Bool
-  -- a four-edge pane with its longer side over 3 times the shorter
+  -- cause 7
   pub tooLong : A → Bool
   -- how many lines the part may have
   pub most : ℕ
 
-abbrev pub between : ℕ → ℕ → ℕ → Bool
+abbrev pub between : (low high n : ℕ) → Bool
 between low high n = leb low n && leb n high
 
 -- A line: what it says and the bytes after it, or its cause.
@@ -36,17 +35,16 @@ pub data Judged (A : Type 0) : Type 0 where
   taken : A → List ℕ → Judged A
   faulty : Cause → Judged A
 
--- 5: "a number not among its allowed values"; 6: "id already on an earlier line of that part"; 7: "four-edge pane, longer
--- side over 3 times the shorter". `ids` are those of the earlier lines.
-unfoldable pub judgedEntry : {A : Type 0} → Form A → List ℕ → A → List ℕ → Judged A
+-- A line of the right form: causes 5, 6 and 7, in this order. `ids` are those of the earlier lines, and `rest` the bytes after it.
+unfoldable pub judgedEntry : {A : Type 0} (form : Form A) (ids : List ℕ) (x : A) (rest : List ℕ) → Judged A
 judgedEntry form ids x rest =
     if not (form .allowed x) then faulty NumberValue
     else if among (form .id x) ids then faulty RepeatedId
     else if form .tooLong x then faulty TooLong
     else taken x rest
 
--- 4: "line not of its part's form, or newline missing"; then 5, 6, 7.
-unfoldable pub judged : {A : Type 0} → Form A → List ℕ → List ℕ → Judged A
+-- The line at the front of some bytes: cause 4, and then the others.
+unfoldable pub judged : {A : Type 0} (form : Form A) (ids bytes : List ℕ) → Judged A
 judged form ids bytes =
     elim (line (form .letter) (form .count) bytes) [
       | found ns rest ↦ judgedEntry form ids (form .entry ns) rest
@@ -58,19 +56,25 @@ pub data Lines (A : Type 0) : Type 0 where
   whole : List A → Lines A
   stopped : Cause → ℕ → Lines A
 
--- The lines in `bytes`, the rest of a part that ends at the file's offset `end`, behind the lines that say `earlier`.
--- `left` more lines may begin; 8: "the 65th glass line or 257th pane line begins". A line begins where a byte is left, and
--- its offset is the part's end less the bytes from the line on.
-unfoldable pub lines : {A : Type 0} → Form A → ℕ → ℕ → List A → List ℕ → Lines A
-lines form end zero earlier [] = whole earlier
-lines form end zero earlier (b ∷ bytes) = stopped TooManyLines (end - length (b ∷ bytes))
-lines form end (suc left) earlier [] = whole earlier
-lines form end (suc left) earlier (b ∷ bytes) =
-    elim (judged form (map (form .id) earlier) (b ∷ bytes)) [
+-- Whether no byte is left.
+abbrev pub isEmpty : List ℕ → Bool
+isEmpty [] = true
+isEmpty (b ∷ bytes) = false
+
+-- The lines of a part, of which `bytes` are still to be read. `earlier` is what the lines already read say, and `left` is how many more
+-- may begin. Where no byte is left, the part is whole. Else a line begins, which has cause 8 if no more may, and is judged otherwise.
+-- The part ends at the file's offset `end`, so the offset of a line is `end` less the number of bytes from the line on.
+unfoldable pub lines : {A : Type 0} (form : Form A) (end left : ℕ) (earlier : List A) (bytes : List ℕ) → Lines A
+lines form end zero earlier bytes =
+    if isEmpty bytes then whole earlier
+    else stopped TooManyLines (end - length bytes)
+lines form end (suc left) earlier bytes =
+    if isEmpty bytes then whole earlier
+    else elim (judged form (map (form .id) earlier) bytes) [
       | taken x rest ↦ lines form end left (earlier ++ (x ∷ [])) rest
-      | faulty cause ↦ stopped cause (end - length (b ∷ bytes))
+      | faulty cause ↦ stopped cause (end - length bytes)
     ]
 
--- A whole part, which ends at the file's offset `end`.
-unfoldable pub partLines : {A : Type 0} → Form A → ℕ → List ℕ → Lines A
+-- A part from its first line on, which ends at the file's offset `end`.
+unfoldable pub partLines : {A : Type 0} (form : Form A) (end : ℕ) (bytes : List ℕ) → Lines A
 partLines form end bytes = lines form end (form .most) [] bytes

@@ -12,8 +12,7 @@ unfoldable pub Every : {A : Type 0} → (A → Bool) → List A → Type 0
 Every test [] = Unit
 Every test (x ∷ xs) = T (test x) × Every test xs
 
--- What a part's lines keep: no more of them than allowed, each number among its allowed values, distinct ids, and no
--- four-edge pane with its longer side over 3 times the shorter.
+-- What a part's lines keep: no more of them than allowed, allowed values, distinct ids, and no pane that is too long for its width.
 pub record PartRules {A : Type 0} (form : Form A) (xs : List A) : Type 0 where
   pub at-most : length xs ≤ form .most
   pub allowed : Every (form .allowed) xs

@@ -1,2 +1,1 @@
--- What reading a file promises.
-pub mod Leaves
+pub mod Internal

@@ -1,8 +1,8 @@
-// The file that an argument names: specs/Leaves.antt.
+// The file that an argument names: specs/Internal/Leaves.antt.
 use crate::words::write;
 use libc::ENAMETOOLONG;
 ghost use Rattle.io.specs.Counts.{Counts};
-ghost use Rattle.job_tool.specs.Leaves.{Leaves};
+ghost use Rattle.job_tool.specs.Internal.Leaves.{Leaves};
 
 // What came of reading a file: how many bytes of it stand at the start of the buffer, or why there is no file to go by.
 pub enum FileRead {

@@ -53,7 +53,7 @@ pub fn say_cause(cause: Cause) {
             b"the id is already on an earlier line of this part; give the line an id of its own",
         ),
         Cause::TooLong => say(
-            b"a four-edge pane's longer side is over 3 times the shorter; correct the sides or divide the pane",
+            b"a pane with four edges is more than 3 times as long as it is wide; correct the sides or divide the pane",
         ),
         Cause::TooManyLines => say(
             b"the part has more than 64 glass lines or 256 pane lines; divide the job into several files",

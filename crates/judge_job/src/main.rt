@@ -11,7 +11,7 @@ mod words;
 use arguments::HIGHEST_ID;
 use arguments::id_of;
 use arguments::is_id;
-use clauses::Answer;
+use clauses::Ruling;
 use clauses::Verdict;
 use job_file::Checked;
 use job_file::Job;
@@ -139,10 +139,10 @@ fn judge(file: &[u8], name: usize, pane: u32, glass: u32, is_single: bool) {
 }
 
 // The rest of a line: `passes`, `fails CLAUSE` or `refused NUMBER OFFSET`.
-fn write_answer(answer: Answer) {
+fn write_answer(answer: Ruling) {
     match answer {
-        Answer::Judged(verdict) => write_verdict(verdict),
-        Answer::Refused { cause, offset } => write_refusal(cause, offset),
+        Ruling::Ruled(verdict) => write_verdict(verdict),
+        Ruling::Refused { cause, offset } => write_refusal(cause, offset),
     }
 }
 

@@ -1,18 +1,18 @@
 // What is said to people, on standard error: an answer in plain words, with the number and the name of the clause.
 use causes::Cause;
 use causes::number_of;
-use clauses::Answer;
+use clauses::Ruling;
 use clauses::Verdict;
 use job_tool::say;
 
 // Why the glass may not be used; nothing where it may.
-pub(crate) fn explain(answer: Answer) {
+pub(crate) fn explain(answer: Ruling) {
     match answer {
-        Answer::Judged(verdict) => match verdict {
+        Ruling::Ruled(verdict) => match verdict {
             Verdict::Passes => {}
             Verdict::Fails(clause) => explain_clause(clause),
         },
-        Answer::Refused { cause, offset: _ } => explain_refusal(cause),
+        Ruling::Refused { cause, offset: _ } => explain_refusal(cause),
     }
 }
 

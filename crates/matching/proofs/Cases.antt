@@ -6,7 +6,7 @@ use mathlib.Core.Path.{_≡_, refl}
 use mathlib.Core.List.{List}
 use Rattle.matching.specs.declared.search.Search.{Search}
 use Rattle.matching.specs.declared.search.Search.the-variants.{Moved, Stuck}
-use Rattle.matching.specs.Steps.{Served, NotServed, Serves, Freed, NotFreed, Frees}
+use Rattle.matching.specs.Internal.Steps.{Served, NotServed, Serves, Freed, NotFreed, Frees}
 
 module _ (rows before held after : List ℕ) (a spare seen : ℕ) (answer : Search) (lent : held ≡ before) where
   pub served-of :

@@ -8,9 +8,9 @@ use mathlib.Core.Bool.{Bool, true, false, not, _&&_, _||_}
 use lib.Dec.{eqb}
 use borrow.Author.Tests.{eq-eqb, not-true}
 use Rattle.basics.proofs.Tests.{differ, both-true}
-use Rattle.glass_set.specs.Member.{has, Members, Within, unvisited}
+use Rattle.glass_set.specs.Internal.Member.{has, Members, Within, unvisited}
 use Rattle.glass_set.proofs.Members.{has-none, unvisited-less}
-use Rattle.matching.specs.Steps.{Unseen}
+use Rattle.matching.specs.Internal.Steps.{Unseen}
 use Rattle.matching.proofs.Growth.{within-with}
 
 -- What is left of a row outside a set.

@@ -13,11 +13,12 @@ use native.Mathlib.Omega.{arith}
 use lib.Dec.{ltb}
 use borrow.Author.Tests.{ltb-true, ltb-false}
 use Rattle.basics.specs.Choice.{if_then_else_}
-use Rattle.ranges.specs.Ranges.{sumTo, one, countTo}
+use Rattle.ranges.specs.Ranges.{sumTo}
+use Rattle.ranges.specs.Internal.Counts.{one, countTo}
 use Rattle.ranges.proofs.Sums.{sum-le, sum-add, sum-le-some}
 use Rattle.ranges.proofs.Counts.{one-le, count-not, count-by}
 use Rattle.ranges.proofs.All.{all-at}
-use Rattle.matching.specs.Matching.{Task, given, served, Matching, confined, sheetsOf, Greatest}
+use Rattle.matching.specs.Internal.Matching.{Task, given, served, Matching, confined, sheetsOf, Greatest}
 
 -- What a search that has ended leaves: some glasses, all of whose sheets are given, such that every pane that has one of them,
 -- and every pane that has none, can have no other.
@@ -85,12 +86,14 @@ module _ (t : Task) (some : ℕ → Bool) (way : ℕ → ℕ) where
 
 pub greatest-of :
     (t : Task) (tight : ℕ → Bool) (glassOf : ℕ → ℕ) → Matching t glassOf →
-    ((p : ℕ) → p < t .panes → glassOf p ≤ t .glasses) → Closed t glassOf tight → Greatest t glassOf tight
-greatest-of t tight glassOf w or-none c = record {
+    ((p : ℕ) → p < t .panes → glassOf p ≤ t .glasses) → Closed t glassOf tight →
+    (served t glassOf ≡ t .panes → (g : ℕ) → tight g ≡ false) → Greatest t glassOf tight
+greatest-of t tight glassOf w or-none c none-tight = record {
   matching = w;
   or-none = or-none;
   none-to-spare = λ p l e g k pass.
       c .all-given g k (confined-at t tight p g (c .left-over p l (λ has. omega arith)) k pass);
   greatest = λ other w′. omega (arith, served-le-cover t tight other w′, cover-le-served t tight glassOf c);
   shortage = λ short. omega (arith, cover-le-served t tight glassOf c, count-not (confined t tight) (t .panes));
+  none-tight = none-tight;
 }

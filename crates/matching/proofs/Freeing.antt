@@ -7,11 +7,12 @@ use Prim.Native.Nat.{ℕ, _+_, _<_}
 use mathlib.Core.Path.{_≡_}
 use mathlib.Core.Logic.{_⊎_, inl, inr}
 use mathlib.Core.List.{List}
+use native.Mathlib.Omega.{arith}
 use lib.ListN.{getD}
 use Rattle.basics.proofs.Tests.{one-more}
-use Rattle.glass_set.specs.Member.{Within}
-use Rattle.glass_set.proofs.Members.{within-trans}
-use Rattle.matching.specs.Steps.{Unseen, Grown, Move, stays, moves, Served, NotServed, Freed}
+use Rattle.glass_set.specs.Internal.Member.{Within}
+use Rattle.glass_set.proofs.Members.{within-trans, unvisited-le}
+use Rattle.matching.specs.Internal.Steps.{Unseen, Grown, Move, stays, moves, Served, NotServed, Freed}
 use Rattle.matching.proofs.Growth.{unseen-back, grown-more}
 
 module _ (rows before : List ℕ) (glass spare seen marked : ℕ) (grown : Within seen marked) where
@@ -24,6 +25,8 @@ module _ (rows before : List ℕ) (glass spare seen marked : ℕ) (grown : Withi
     last-spare = m .chain .last-spare;
     counts = λ g. rw is at (m .chain .counts g);
     each = λ p l. go p (m .chain .each p l);
+    no-glass-twice = m .chain .no-glass-twice;
+    few = omega (arith, m .chain .few, unvisited-le seen marked grown);
   }
     where
       go :

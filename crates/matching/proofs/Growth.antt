@@ -11,9 +11,9 @@ use mathlib.Core.List.{List}
 use lib.Dec.{eqb}
 use lib.ListN.{getD}
 use Rattle.basics.proofs.Tests.{differ}
-use Rattle.glass_set.specs.Member.{has, Members, Within}
+use Rattle.glass_set.specs.Internal.Member.{has, Members, Within}
 use Rattle.glass_set.proofs.Members.{within-trans, within-out}
-use Rattle.matching.specs.Steps.{Unseen, Exhausted, Grown}
+use Rattle.matching.specs.Internal.Steps.{Unseen, Exhausted, Grown}
 
 pub unseen-back : (a b g : ℕ) → Within a b → Unseen b g → Unseen a g
 unseen-back a b g f u = record { below = u .below; out = within-out a b g f (u .below) (u .out) }

@@ -3,6 +3,7 @@ pub mod Cover
 -- The search: one law for each way through it.
 pub mod Growth
 pub mod Choices
+pub mod Links
 pub mod Serving
 pub mod Freeing
 pub mod Cases

@@ -3,7 +3,7 @@
 --     serve-moved    a holder of a glass has moved, and the pane takes its sheet
 --     serve-on       no holder of a glass can move: it is exhausted too
 use Prim.Native.Nat.{ℕ, _+_, _<_}
-use mathlib.Core.Path.{_≡_, refl, ap, subst, subst⁻¹, _∙_}
+use mathlib.Core.Path.{_≡_, refl, ap, sym, subst⁻¹, _∙_}
 use mathlib.Core.Logic.{_⊎_, inl, inr}
 use mathlib.Core.Bool.{Bool, true, false, _||_}
 use mathlib.Core.List.{List}
@@ -12,13 +12,15 @@ use lib.Dec.{eqb}
 use lib.ListN.{length, getD, set}
 use lib.Seq.{getD-set-same, getD-set-other}
 use borrow.Author.Tests.{ne-eqb}
-use Rattle.ranges.specs.Ranges.{one}
-use Rattle.basics.proofs.Tests.{same-or-not}
+use Rattle.ranges.specs.Internal.Counts.{one}
+use Rattle.basics.proofs.Tests.{differ, same-or-not}
 use Rattle.ranges.proofs.Sums.{sum-at}
-use Rattle.glass_set.specs.Member.{has, Members, Within}
-use Rattle.glass_set.proofs.Members.{within-trans}
-use Rattle.matching.specs.Steps.{Unseen, holding, Exhausted, Grown, Move, stays, moves, Servable, Served, Freed, NotFreed}
+use Rattle.glass_set.specs.Internal.Member.{has, Members, Within}
+use Rattle.glass_set.proofs.Members.{within-trans, unvisited-le, unvisited-some}
+use Rattle.matching.specs.Internal.Steps.{Unseen, holding, Exhausted, Grown, Move, stays, moves, isMoved, Servable, Served, Freed, NotFreed}
 use Rattle.matching.proofs.Growth.{unseen-back, within-with, exhausted-more}
+use Rattle.matching.proofs.Choices.{now-marked, fewer}
+use Rattle.matching.proofs.Links.{moved-unseen, none-moved, few-none, none-twice, few-more, twice-more}
 
 -- The panes that hold each glass, after one pane was given another.
 holding-set :
@@ -48,6 +50,16 @@ module _ (rows before : List ℕ) (pane spare seen : ℕ) where
           last-spare = at-hand;
           counts = holding-set rows before pane glass (s .same-length) (s .of-rows);
           each = λ p l. go has-unseen has-passing p (same-or-not p pane);
+          no-glass-twice =
+              twice-more before before pane glass (length rows) (omega (arith, s .same-length, s .of-rows))
+              (none-twice before (length rows))
+              (λ p l moved. absurd (none-moved before p moved));
+          few = omega (
+            arith,
+            few-more before before pane glass (length rows) (s .of-rows),
+            few-none before (length rows),
+            unvisited-some seen glass (unseen .below) (unseen .out),
+          );
         };
         has-unseen = has-unseen;
       }
@@ -85,6 +97,12 @@ module _ (rows before : List ℕ) (pane spare seen : ℕ) where
           go (stays e) = e
           go (moves l u e) = absurd (s .settled (left pane l))
 
+      -- Nobody was moved to the glass, since it was marked.
+      new-glass : (p : ℕ) → p < length rows → isMoved before mid p ≡ true → getD mid p 0 ≡ glass → ⊥
+      new-glass p l moved e =
+          let to = moved-unseen rows before mid with-glass p moved (freed .each p l) in
+          differ (now-marked marked glass with-glass is-with (unmarked .below)) (ap (has with-glass) (sym e) ∙ to .out)
+
       pub serve-moved :
           has (getD rows pane 0) glass ≡ true → Served rows before (set mid pane glass) pane spare seen last
       serve-moved passing =
@@ -101,6 +119,16 @@ module _ (rows before : List ℕ) (pane spare seen : ℕ) where
                   let given′ = rw pane-stays at given in
                   omega (arith, given′, freed .counts g);
               each = λ p l. go has-unseen has-passing p (same-or-not p pane) (freed .each p l);
+              no-glass-twice =
+                  twice-more before mid pane glass (length rows) (omega (arith, long, s .same-length, s .of-rows))
+                  (freed .no-glass-twice) new-glass;
+              few = omega (
+                arith,
+                few-more before mid pane glass (length rows) (s .of-rows),
+                freed .few,
+                fewer marked glass with-glass is-with (unmarked .below) (unmarked .out),
+                unvisited-le seen marked grown,
+              );
             };
             has-unseen = has-unseen;
           }

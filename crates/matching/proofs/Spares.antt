@@ -12,7 +12,7 @@ use lib.ListN.{getD}
 use borrow.Author.Tests.{eq-eqb, ne-eqb, lt-ltb, le-ltb}
 use Rattle.basics.specs.Choice.{if_then_else_}
 use Rattle.basics.proofs.Tests.{one-more}
-use Rattle.glass_set.specs.Member.{has, Members}
+use Rattle.glass_set.specs.Internal.Member.{has, Members}
 use Rattle.glass_set.proofs.Members.{has-none}
 
 pub record Counted (sheets : List ℕ) (spare next : ℕ) : Type 0 where

@@ -5,22 +5,23 @@
 --     standing-first     before the first pane
 --     standing-last      after the last pane the placing is a greatest one
 use Prim.Native.Nat.{ℕ, _+_, _≤_, _<_}
-use mathlib.Core.Path.{_≡_}
+use mathlib.Core.Path.{_≡_, refl}
 use mathlib.Core.Logic.{_⊎_, inl, inr}
 use mathlib.Core.Bool.{true}
 use mathlib.Core.List.{List}
 use native.Mathlib.Omega.{arith}
 use lib.Dec.{ltb, eqb}
 use lib.ListN.{length, getD}
-use borrow.Author.Tests.{ne-eqb}
-use Rattle.ranges.specs.Ranges.{one}
+use borrow.Author.Tests.{ne-eqb, ltb-true}
+use Rattle.ranges.specs.Internal.Counts.{one}
 use Rattle.basics.proofs.Tests.{differ}
 use Rattle.ranges.proofs.Sums.{sum-zero}
-use Rattle.glass_set.specs.Member.{has, Members, Within}
+use Rattle.ranges.proofs.Counts.{count-all}
+use Rattle.glass_set.specs.Internal.Member.{has, Members, Within}
 use Rattle.glass_set.proofs.Members.{has-none, within-of}
-use Rattle.matching.specs.Matching.{Greatest}
-use Rattle.matching.specs.Rows.{taskOf, wayOf}
-use Rattle.matching.specs.Steps.{holding}
+use Rattle.matching.specs.Internal.Matching.{Greatest}
+use Rattle.matching.specs.Internal.Rows.{taskOf, wayOf}
+use Rattle.matching.specs.Internal.Steps.{holding}
 use Rattle.matching.proofs.Cover.{greatest-of}
 
 abbrev pub Suits : (rows held : List ℕ) (p : ℕ) → Type 0
@@ -31,7 +32,8 @@ pub record Held (set g : ℕ) : Type 0 where
   pub in-set : has set g ≡ true
 
 -- `left` has the sheets that are left of each glass, and `spare` the glasses that have one left. `tight` has glasses that no
--- pane can leave: all their sheets are given, and neither their holders nor the panes without a glass can have any other.
+-- pane can leave: all their sheets are given, and neither their holders nor the panes without a glass can have any other. It has
+-- none while every pane that had its turn has a glass.
 pub record Standing (rows sheets held left : List ℕ) (spare tight next : ℕ) : Type 0 where
   pub same-length : length held ≡ length rows
   pub all-glasses : length left ≡ 64
@@ -42,6 +44,7 @@ pub record Standing (rows sheets held left : List ℕ) (spare tight next : ℕ) 
   pub all-given : (g : ℕ) → g < 64 → has tight g ≡ true → getD left g 0 ≡ 0
   pub holders : (p : ℕ) → p < length rows → Held tight (wayOf held p) → Within (getD rows p 0) tight
   pub left-over : (p : ℕ) → p < next → p < length rows → wayOf held p ≡ 64 → Within (getD rows p 0) tight
+  pub none-tight : ((p : ℕ) → p < next → p < length rows → wayOf held p < 64) → tight ≡ 0
 
 module _ (rows sheets held : List ℕ) (none : (p : ℕ) → p < length rows → wayOf held p ≡ 64) where
   -- No pane holds a glass where every pane waits.
@@ -63,6 +66,7 @@ module _ (rows sheets held : List ℕ) (none : (p : ℕ) → p < length rows →
     all-given = λ g l e. differ e (has-none g);
     holders = λ p l h. differ (h .in-set) (has-none (wayOf held p));
     left-over = λ p l k e. absurd (omega arith);
+    none-tight = λ all. refl;
   }
 
 -- A pane's glass passes for it; it has one or none.
@@ -98,3 +102,7 @@ standing-last rows sheets held left spare tight next end s =
           within-of (getD rows p 0) tight
           (s .left-over p (omega arith) l (without rows held p (s .suits p l) none));
     })
+    (λ all g.
+    let none =
+    s .none-tight (λ p l k. ltb-true (wayOf held p) 64 (count-all (λ q. ltb (wayOf held q) 64) (length rows) all p k)) in
+    rw none (has-none g))

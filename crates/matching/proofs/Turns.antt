@@ -15,12 +15,12 @@ use lib.ListN.{length, getD, set, length-set}
 use lib.Seq.{getD-set-same, getD-set-other}
 use borrow.Author.Tests.{eq-eqb, ne-eqb, ltb-true, ltb-false}
 use Rattle.basics.specs.Choice.{if_then_else_}
-use Rattle.ranges.specs.Ranges.{one}
+use Rattle.ranges.specs.Internal.Counts.{one}
 use Rattle.basics.proofs.Tests.{differ, same-or-not, one-more}
-use Rattle.glass_set.specs.Member.{has, Members, Within}
+use Rattle.glass_set.specs.Internal.Member.{has, Members, Within}
 use Rattle.glass_set.proofs.Members.{within-trans}
-use Rattle.matching.specs.Rows.{wayOf}
-use Rattle.matching.specs.Steps.{Unseen, holding, Move, stays, moves, Servable, Served, NotServed}
+use Rattle.matching.specs.Internal.Rows.{wayOf}
+use Rattle.matching.specs.Internal.Steps.{Unseen, holding, Move, stays, moves, Servable, Served, NotServed}
 use Rattle.matching.proofs.Standing.{Suits, Held, Standing}
 
 -- The sheets left once one more of a glass is given.
@@ -58,6 +58,7 @@ module _
           one-more (λ p. p < length rows → wayOf held p ≡ 64 → Within (getD rows p 0) now) next
           (λ p l k e. wider p (s .left-over p l k e))
           (λ k e. n .row-seen);
+      none-tight = λ all. absurd (omega (arith, all next (omega arith) turn, waits));
     }
       where
         given : (g : ℕ) → g < 64 → has now g ≡ true → (x : Bool) → has tight g ≡ x → getD left g 0 ≡ 0
@@ -139,6 +140,7 @@ module _
                   one-more (λ p. p < length rows → wayOf after p ≡ 64 → Within (getD rows p 0) tight) next
                   (λ p l k e. over p l k e (m .chain .each p k))
                   (λ k e. absurd (omega (arith, e, m .has-unseen .below)));
+              none-tight = λ all. s .none-tight (λ p l k. had p l (all p (omega arith) k) (m .chain .each p k));
             }
               where
                 Moves : ℕ → Type 0
@@ -168,3 +170,9 @@ module _
                     (p : ℕ) → p < next → p < length rows → wayOf after p ≡ 64 → Moves p → Within (getD rows p 0) tight
                 over p l k e (stays f) = s .left-over p l k (sym f ∙ e)
                 over p l k e (moves from to f) = absurd (omega (arith, e, to .below))
+
+                -- A pane that has had its turn and has a glass now had one already.
+                had : (p : ℕ) → p < next → wayOf after p < 64 → Moves p → wayOf held p < 64
+                had p l h (stays e) = rw e at h
+                had p l h (moves (inl same) to e) = absurd (omega (arith, same))
+                had p l h (moves (inr from) to e) = from .below

@@ -1,7 +1,7 @@
 // The greatest matching of panes and glasses: document 01, "The placing".
 //
 // `match_panes` takes a row of bits for each pane, one for each glass that passes for it, and the sheets of each glass. It
-// knows of no file and no verdict; specs/Matching.antt says what it gives.
+// knows of no file and no verdict; specs/Internal/Matching.antt says what it gives.
 mod search;
 mod sheets;
 
@@ -11,15 +11,16 @@ use sheets::spare_after;
 use sheets::spare_glasses;
 ghost use mathlib.Core.Path.{_≡_};
 ghost use lib.ListN.{length, replicate};
-ghost use Rattle.glass_set.specs.Member.{has};
-ghost use Rattle.matching.specs.Matching.{Greatest};
-ghost use Rattle.matching.specs.Rows.{taskOf, wayOf};
+ghost use Rattle.glass_set.specs.Internal.Member.{has};
+ghost use Rattle.matching.specs.Internal.Matching.{Greatest};
+ghost use Rattle.matching.specs.Internal.Rows.{taskOf, wayOf};
 
 // What a pane holds where it has no glass; the glasses are numbered from 0.
 pub const NO_GLASS: usize = 64;
 
 // Gives each pane the number of a glass, or `NO_GLASS`, so that no way to give them serves more. The answer is a set of tight
-// glasses: where a pane has no glass, the panes that can have none but these are more than their sheets.
+// glasses: where a pane has no glass, the panes that can have none but these are more than their sheets. It is empty where every
+// pane has one.
 pub fn match_panes(rows: &[u64], sheets: [u32; 64], held: &mut [usize]) -> u64
     requires { ⌜ length (now held) ≡ length (now rows) ⌝ }
     ensures { λ r. ⌜ Greatest (taskOf (now (rows .entry)) sheets) (wayOf (now (held .exit))) (has r) ⌝ }

@@ -1,13 +1,13 @@
-// The search for a chain of moves: document 01, "The placing": "A pane may take a sheet by moving others over. Such a chain
-// visits no glass twice, so it has at most 64 links."
+// The search for a chain of moves, by which a pane gets a sheet that others make room for: document 01, "The placing".
 //
 // `serve` and `free` call each other. A glass that is looked at goes into the set `seen`, and none that is in it is looked at
-// again, so the number of unvisited glasses falls with every link. specs/Steps.antt says what each call leaves.
+// again, so the number of unvisited glasses falls with every link, and no chain has more links than there were such glasses.
+// specs/Internal/Steps.antt says what each call leaves.
 use glass_set::both;
 use glass_set::first;
 use glass_set::minus;
 use glass_set::with;
-ghost use Rattle.matching.specs.Steps.{Servable, Serves, Freeable, Frees};
+ghost use Rattle.matching.specs.Internal.Steps.{Servable, Serves, Freeable, Frees};
 
 // What a search gives: the glass whose spare sheet was taken at the end of a chain of moves; or no chain, and all the glasses
 // that were seen.

@@ -5,7 +5,7 @@ ghost use Prim.Native.Nat.{_<_};
 ghost use lib.Dec.{ltb, eqb};
 ghost use lib.ListN.{getD};
 ghost use Rattle.basics.specs.Choice.{if_then_else_};
-ghost use Rattle.glass_set.specs.Member.{has, Members};
+ghost use Rattle.glass_set.specs.Internal.Member.{has, Members};
 
 // The glasses of which there is a sheet.
 pub fn spare_glasses(sheets: [u32; 64]) -> u64

@@ -1,6 +1,6 @@
 // The rules on the answers: placed counts those that are not 0; no glass is given more often than it has sheets; each answer
-// other than 0 is a glass that passes for its pane; a pane with 0 has no passing glass with a sheet to spare; later entries are
-// unchanged.
+// other than 0 is a glass that passes for its pane; where a pane has 0, the sheets of all its passing glasses are given away;
+// later entries are unchanged.
 use crate::job::Job;
 use crate::lists::LONGEST;
 use crate::lists::is_same_from;

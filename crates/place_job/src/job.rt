@@ -1,6 +1,6 @@
 // What the rules are held against: the job of a file, and which glass passes for which pane.
 use causes::Cause;
-use clauses::Answer;
+use clauses::Ruling;
 use clauses::Verdict;
 use job_file::Checked;
 
@@ -67,7 +67,7 @@ fn is_passing(file: &[u8], pane: u32, glass: u32) -> bool {
     if (pane == 0) | (glass == 0) {
         return false;
     }
-    if let Answer::Judged(verdict) = clauses::verdict(file, pane, glass) {
+    if let Ruling::Ruled(verdict) = clauses::verdict(file, pane, glass) {
         if let Verdict::Passes = verdict {
             return true;
         }

@@ -21,13 +21,13 @@ use Rattle.job_glass.specs.declared.Glass.{Glass}
 use Rattle.job_pane.specs.declared.Pane.{Pane}
 use Rattle.basics.proofs.Lent.{zeros-at}
 use Rattle.basics.proofs.Tests.{same-or-not, one-more}
-use Rattle.glass_set.specs.Member.{has, Members}
+use Rattle.glass_set.specs.Internal.Member.{has, Members}
 use Rattle.glass_set.proofs.Members.{has-none}
-use Rattle.job_file.specs.Job.{glassAt, paneAt, stocksOf}
+use Rattle.job_file.specs.Entries.{glassAt, paneAt, stocksOf}
 use Rattle.row_placing.specs.Schedule.{Schedule}
-use Rattle.row_placing.specs.Stated.{RowOf}
-use Rattle.placing.specs.Passing.{passes, scheduleOf}
-use Rattle.placing.specs.Steps.{JobRows}
+use Rattle.row_placing.specs.Internal.Stated.{RowOf}
+use Rattle.placing.specs.FileSchedule.{passesFor, scheduleOf}
+use Rattle.placing.specs.Internal.Steps.{JobRows}
 
 module _ (row number : ℕ) (pass : Bool) where
   pub bit-passes :
@@ -39,27 +39,27 @@ module _ (row number : ℕ) (pass : Bool) where
   bit-fails failed g l = rw (failed, and-false)
 
 abbrev pub RowTo : Pane → List Glass → ℕ → ℕ → Type 0
-RowTo pane glasses n row = Members row (λ g. ltb g n && passes pane (glassAt glasses g))
+RowTo pane glasses n row = Members row (λ g. ltb g n && passesFor pane (glassAt glasses g))
 
 pub row-none : (pane : Pane) (glasses : List Glass) → RowTo pane glasses 0 0
 row-none pane glasses g l = has-none g ∙ rw (le-ltb g 0 (omega arith))
 
 pub row-next :
     (pane : Pane) (glasses : List Glass) (n row more : ℕ) → RowTo pane glasses n row →
-    Members more (λ g. (eqb g n && passes pane (glassAt glasses n)) || has row g) → RowTo pane glasses (n + 1) more
+    Members more (λ g. (eqb g n && passesFor pane (glassAt glasses n)) || has row g) → RowTo pane glasses (n + 1) more
 row-next pane glasses n row more r is g l = is g l ∙ rw (r g l) (go (same-or-not g n))
   where
     go :
         (g ≡ n) ⊎ (g ≡ n → ⊥) →
-        ((eqb g n && passes pane (glassAt glasses n)) || (ltb g n && passes pane (glassAt glasses g)))
-        ≡ (ltb g (n + 1) && passes pane (glassAt glasses g))
+        ((eqb g n && passesFor pane (glassAt glasses n)) || (ltb g n && passesFor pane (glassAt glasses g)))
+        ≡ (ltb g (n + 1) && passesFor pane (glassAt glasses g))
     go (inl same) =
         rw (eq-eqb g n same, le-ltb g n (omega (arith, same)), lt-ltb g (n + 1) (omega (arith, same)), same, or-false)
     go (inr other) = rw (ne-eqb g n other) (below (ltb g n) refl)
       where
         below :
             (b : Bool) → ltb g n ≡ b →
-            (b && passes pane (glassAt glasses g)) ≡ (ltb g (n + 1) && passes pane (glassAt glasses g))
+            (b && passesFor pane (glassAt glasses g)) ≡ (ltb g (n + 1) && passesFor pane (glassAt glasses g))
         below true e = rw (lt-ltb g (n + 1) (omega (arith, ltb-true g n e)))
         below false e = rw (le-ltb g (n + 1) (past (eq-or-lt-of-le (ltb-false g n e))))
           where
@@ -77,9 +77,9 @@ row-of glasses panes p array n row front long r g l =
   where
     go :
         (b : Bool) → ltb g n ≡ b →
-        (b && passes (paneAt panes p) (glassAt array g)) ≡ (b && passes (paneAt panes p) (glassAt glasses g))
+        (b && passesFor (paneAt panes p) (glassAt array g)) ≡ (b && passesFor (paneAt panes p) (glassAt glasses g))
     go true e =
-        ap (passes (paneAt panes p)) (sym (getD-take n array g blankGlass (ltb-true g n e)) ∙ ap (λ (l : List Glass). glassAt l g) (sym front))
+        ap (passesFor (paneAt panes p)) (sym (getD-take n array g blankGlass (ltb-true g n e)) ∙ ap (λ (l : List Glass). glassAt l g) (sym front))
     go false e = refl
 
 module _ (s : Schedule) where
@@ -108,7 +108,7 @@ module _ (s : Schedule) where
         λ p k. getD-set-other rows n p row 0 (λ same. omega (arith, same)) ∙ r .none-later p (omega arith);
   }
 
-  pub rows-all : (n : ℕ) (rows : List ℕ) → n ≡ length (s .panes) → RowsTo n rows → JobRows s rows
+  pub rows-all : (n : ℕ) (rows : List ℕ) → n ≡ length (s .pane-ids) → RowsTo n rows → JobRows s rows
   rows-all n rows all r = record {
     of-panes = λ p l. r .each p (omega (arith, all));
     none-later = λ p l. r .none-later p (omega (arith, all));

@@ -10,23 +10,24 @@ use mathlib.Core.List.{List}
 use lib.Dec.{ltb}
 use lib.ListN.{length}
 use borrow.Author.Tests.{le-ltb}
-use Rattle.causes.specs.Cause.{numberOf}
+use Rattle.causes.specs.Answer.{Answer, refusal}
 use Rattle.causes.specs.declared.Cause.{Cause}
 use Rattle.causes.specs.declared.Cause.the-variants.{ListTooShort}
 use Rattle.job_glass.specs.declared.Glass.{Glass}
 use Rattle.job_pane.specs.declared.Pane.{Pane}
 use Rattle.job_file.specs.File.{Outcome, accepted, refused}
-use Rattle.job_file.specs.Job.{stocksOf}
-use Rattle.placing.specs.Passing.{scheduleOf}
-use Rattle.placing.specs.Promise.{Says, refuses, Call, call, Refusal, Counted, Promised}
+use Rattle.job_file.specs.Entries.{stocksOf}
+use Rattle.row_placing.specs.declared.PlaceCounts.{PlaceCounts}
+use Rattle.placing.specs.FileSchedule.{scheduleOf}
+use Rattle.placing.specs.Promise.{Call, call, RefusedCall, PlacedCall, Promised}
 
 module _ (o : Outcome) (answers group : List ℕ) where
   -- A call that is refused for a cause.
   abbrev kept : Cause → ℕ → Call
-  kept cause offset = call (refuses (numberOf cause) offset) answers answers group group
+  kept cause offset = call (refusal cause offset) answers answers group group
 
-  is-refusal : (cause : Cause) (offset : ℕ) → Refusal cause offset (kept cause offset)
-  is-refusal cause offset = record { result = refl; answers-kept = refl; group-kept = refl }
+  is-refusal : (cause : Cause) (offset : ℕ) → RefusedCall cause offset (kept cause offset)
+  is-refusal cause offset = record { result-is = refl; answers-kept = refl; group-kept = refl }
 
   pub promised-refusal : (cause : Cause) (offset : ℕ) → o ≡ refused cause offset → Promised o (kept cause offset)
   unfolding Promised
@@ -39,22 +40,22 @@ module _ (o : Outcome) (answers group : List ℕ) where
     promised-short short = rw (is, Promised, short) (is-refusal ListTooShort 0)
 
     pub promised-counted :
-        (result : Says) (answers-after group-after : List ℕ) →
+        (result : Answer PlaceCounts) (answers-after group-after : List ℕ) →
         (ltb (length answers) (length panes) || ltb (length group) (length panes)) ≡ false →
-        Counted (scheduleOf glasses (stocksOf glasses) panes) (call result answers answers-after group group-after) →
+        PlacedCall (scheduleOf glasses (stocksOf glasses) panes) (call result answers answers-after group group-after) →
         Promised o (call result answers answers-after group group-after)
     unfolding Promised
     promised-counted result answers-after group-after long counted = rw (is, Promised, long) counted
 
 pub counted-of :
     (o : Outcome) (glasses : List Glass) (panes : List Pane) (c : Call) → o ≡ accepted glasses panes →
-    length panes ≤ length (c .answers .before) → length panes ≤ length (c .group .before) → Promised o c →
-    Counted (scheduleOf glasses (stocksOf glasses) panes) c
+    length panes ≤ length (c .answer-list .before) → length panes ≤ length (c .group-list .before) → Promised o c →
+    PlacedCall (scheduleOf glasses (stocksOf glasses) panes) c
 unfolding Promised
 counted-of o glasses panes c is l k p =
     rw (
       is,
       Promised,
-      le-ltb (length (c .answers .before)) (length panes) l,
-      le-ltb (length (c .group .before)) (length panes) k,
+      le-ltb (length (c .answer-list .before)) (length panes) l,
+      le-ltb (length (c .group-list .before)) (length panes) k,
     ) at p

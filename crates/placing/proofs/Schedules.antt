@@ -7,19 +7,21 @@ use mathlib.Core.List.{List}
 use native.Mathlib.Omega.{arith}
 use lib.ListN.{length, getD, take, length-map, List·getD-map, List·getD-append}
 use lib.Seq.{length-take-le, getD-take}
-use Rattle.basics.specs.Arrays.{padded}
+use Rattle.basics.specs.Internal.Arrays.{padded}
 use Rattle.job_glass.specs.GlassLine.{blankGlass}
 use Rattle.job_glass.specs.declared.Glass.{Glass}
 use Rattle.job_pane.specs.PaneLine.{blankPane}
 use Rattle.job_pane.specs.declared.Pane.{Pane}
-use Rattle.job_file.specs.Job.{glassesOf, panesOf, glassIdsOf, paneIdsOf, stocksOf, numbersOf}
-use Rattle.job_file.specs.Rules.{Rules, ReadJob}
+use Rattle.job_file.specs.Internal.Job.{glassesOf, panesOf, numbersOf}
+use Rattle.job_file.specs.Entries.{glassIdsOf, paneIdsOf, stocksOf}
+use Rattle.job_file.specs.Rules.{Rules}
+use Rattle.job_file.specs.Internal.Job.{ReadJob}
 use Rattle.job_file.specs.declared.job.Job.{Job}
 use Rattle.job_file.specs.declared.job.JobNumbers.{JobNumbers}
 use Rattle.job_file.proofs.Laws.{glass-values, glass-ids, pane-ids, few-panes, as-many-panes, pane-ids-lent}
-use Rattle.row_placing.specs.Stated.{Known, Stated}
-use Rattle.placing.specs.Passing.{scheduleOf}
-use Rattle.placing.specs.Steps.{JobRows}
+use Rattle.row_placing.specs.Internal.Stated.{Known, Stated}
+use Rattle.placing.specs.FileSchedule.{scheduleOf}
+use Rattle.placing.specs.Internal.Steps.{JobRows}
 
 module _ {glasses : List Glass} {panes : List Pane} (rules : Rules glasses panes) where
   glass-id-at : (g : ℕ) → getD (glassIdsOf glasses) g 0 ≡ getD glasses g blankGlass .id
@@ -32,8 +34,8 @@ module _ {glasses : List Glass} {panes : List Pane} (rules : Rules glasses panes
   known-file sheets = record {
     few = rw length-map (rules .of-glasses .at-most);
     id-low = λ g l. rw (glass-id-at g) (glass-values rules g (rw length-map at l) .id-low);
-    glass-ids = λ i j l k e. glass-ids rules i j l (rw length-map at k) (sym (glass-id-at i) ∙ e ∙ glass-id-at j);
-    pane-ids = λ i j l k e. pane-ids rules i j l (rw length-map at k) (sym (pane-id-at i) ∙ e ∙ pane-id-at j);
+    glasses-differ = λ i j l k e. glass-ids rules i j l (rw length-map at k) (sym (glass-id-at i) ∙ e ∙ glass-id-at j);
+    panes-differ = λ i j l k e. pane-ids rules i j l (rw length-map at k) (sym (pane-id-at i) ∙ e ∙ pane-id-at j);
   }
 
 module _ (job : Job) (r : ReadJob job) (rows : List ℕ) (numbers : JobNumbers) where

@@ -3,7 +3,9 @@
 --     count-le                   a count is at most the bound
 --     count-same, count-fewer    two tests that agree; a test that passes only where another does
 --     count-none                 a test that no number passes
+--     count-less                 a test that some number does not pass
 --     count-not                  a count and the count of the rest are the bound
+--     count-all                  a count as great as the bound: every number passes
 --     count-by                   the numbers that have one of some values below a bound, counted value by value
 use Prim.Native.Nat.{ℕ, zero, suc, _+_, _≤_, _<_}
 use mathlib.Core.Path.{_≡_, refl, ap, sym, _∙_}
@@ -14,9 +16,10 @@ use native.Mathlib.Omega.{arith}
 use lib.Dec.{ltb, eqb}
 use borrow.Author.Tests.{ltb-true, ltb-false, lt-ltb, le-ltb, eq-eqb, ne-eqb}
 use Rattle.basics.specs.Choice.{if_then_else_}
-use Rattle.ranges.specs.Ranges.{sumTo, one, countTo}
+use Rattle.ranges.specs.Ranges.{sumTo}
+use Rattle.ranges.specs.Internal.Counts.{one, countTo}
 use Rattle.basics.proofs.Tests.{last-or-below}
-use Rattle.ranges.proofs.Sums.{sum-zero, sum-cong, sum-le, sum-add}
+use Rattle.ranges.proofs.Sums.{sum-zero, sum-cong, sum-le, sum-add, sum-less}
 
 pub one-le : (a b : Bool) → (a ≡ true → b ≡ true) → one a ≤ one b
 one-le true b h = rw (h refl) (le-refl 1)
@@ -37,6 +40,11 @@ module _ (test other : ℕ → Bool) (n : ℕ) where
 pub count-none : (test : ℕ → Bool) (n : ℕ) → ((i : ℕ) → i < n → test i ≡ false) → countTo test n ≡ 0
 count-none test n h = sum-zero (λ i. one (test i)) n (λ i l. ap one (h i l))
 
+pub count-less : (test : ℕ → Bool) (n i : ℕ) → i < n → test i ≡ false → countTo test n < n
+count-less test n i l failed =
+    let less = sum-less (λ j. one (test j)) (λ j. 1) n i l (λ j k. one-le (test j) true (λ e. refl)) (rw failed (omega arith)) in
+    omega (arith, less, count-le (λ j. true) n)
+
 pub count-not : (test : ℕ → Bool) (n : ℕ) → countTo test n + countTo (λ i. not (test i)) n ≡ n
 unfolding sumTo
 count-not test zero = refl
@@ -45,6 +53,16 @@ count-not test (suc n) = omega (arith, count-not test n, either (test n))
     either : (b : Bool) → one b + one (not b) ≡ 1
     either true = refl
     either false = refl
+
+pub count-all : (test : ℕ → Bool) (n : ℕ) → countTo test n ≡ n → (i : ℕ) → i < n → test i ≡ true
+count-all test n all i l = go (test i) refl
+  where
+    go : (b : Bool) → test i ≡ b → b ≡ true
+    go true is = refl
+    go false is =
+        let fewer =
+        sum-less (λ j. one (test j)) (λ j. one true) n i l (λ j k. one-le (test j) true (λ e. refl)) (rw is (omega arith)) in
+        absurd (omega (arith, all, fewer, count-le (λ j. true) n))
 
 -- A test that asks of every number the same thing besides.
 count-and : (b : Bool) (test : ℕ → Bool) (n : ℕ) → (if b then countTo test n else 0) ≡ countTo (λ i. b && test i) n

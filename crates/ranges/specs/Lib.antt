@@ -1,2 +1,3 @@
--- Sums, counts and tests over the numbers below a bound.
+-- Sums, and whether some number passes a test, below a bound.
 pub mod Ranges
+pub mod Internal

@@ -1,25 +1,11 @@
--- Sums, counts and tests over the numbers below a bound.
+-- Sums and tests over the numbers below a bound.
 use Prim.Native.Nat.{ℕ, zero, suc, _+_}
-use mathlib.Core.Bool.{Bool, true, false, _&&_, _||_}
-use Rattle.basics.specs.Choice.{if_then_else_}
+use mathlib.Core.Bool.{Bool, false, _||_}
 
 -- f 0 + f 1 + .. below n.
 unfoldable pub sumTo : (ℕ → ℕ) → ℕ → ℕ
 sumTo f zero = 0
 sumTo f (suc n) = sumTo f n + f n
-
--- What a test adds to a count.
-abbrev pub one : Bool → ℕ
-one passed = if passed then 1 else 0
-
--- How many of the numbers below n pass a test.
-abbrev pub countTo : (ℕ → Bool) → ℕ → ℕ
-countTo test n = sumTo (λ i. one (test i)) n
-
--- Whether every number below n passes a test.
-unfoldable pub allTo : (ℕ → Bool) → ℕ → Bool
-allTo test zero = true
-allTo test (suc n) = allTo test n && test n
 
 -- Whether some number below n passes a test.
 unfoldable pub anyTo : (ℕ → Bool) → ℕ → Bool

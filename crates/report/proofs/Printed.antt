@@ -10,7 +10,7 @@ use mathlib.Core.Logic.{_⊎_, inl, inr}
 use mathlib.Core.List.{List}
 use native.Mathlib.Nat.{min-le-right}
 use native.Mathlib.Omega.{arith}
-use lib.ListN.{length, getD, take, length-take, length-map, List·getD-map}
+use lib.ListN.{length, getD, take, length-take, length-map, List·getD-map, drop}
 use Rattle.basics.specs.Lent.{Lent}
 use Rattle.basics.proofs.Tests.{same-or-not}
 use Rattle.causes.specs.Cause.{numberOf}
@@ -18,25 +18,26 @@ use Rattle.causes.specs.declared.Cause.{Cause}
 use Rattle.job_glass.specs.GlassLine.{blankGlass}
 use Rattle.job_pane.specs.PaneLine.{blankPane}
 use Rattle.job_file.specs.File.{Outcome, accepted, refused}
-use Rattle.job_file.specs.Job.{glassesOf, panesOf, stocksOf, numbersOf}
-use Rattle.job_file.specs.Rules.{ReadJob}
+use Rattle.job_file.specs.Internal.Job.{glassesOf, panesOf, numbersOf}
+use Rattle.job_file.specs.Entries.{stocksOf}
+use Rattle.job_file.specs.Internal.Job.{ReadJob}
 use Rattle.job_file.specs.declared.job.Job.{Job}
 use Rattle.job_file.specs.declared.job.JobNumbers.{JobNumbers}
 use Rattle.job_file.proofs.Laws.{glass-values, pane-values, few-panes, as-many-panes, pane-ids-lent}
 use Rattle.row_placing.specs.Schedule.{Schedule}
 use Rattle.row_placing.specs.Placing.{PassingId}
 use Rattle.row_placing.specs.ShortGroup.{ShortGroup}
-use Rattle.row_placing.specs.Promise.{Glazed}
+use Rattle.row_placing.specs.Glazed.{Glazed}
 use Rattle.row_placing.specs.declared.PlaceCounts.{PlaceCounts}
-use Rattle.placing.specs.Passing.{scheduleOf}
+use Rattle.placing.specs.FileSchedule.{scheduleOf}
 use Rattle.placing.proofs.Laws.{nonzero-le}
 use Rattle.report.specs.Text.{placingText, refusalText}
-use Rattle.report.specs.Promise.{TextOf, Reported}
-use Rattle.report.specs.Steps.{Wrote, FourDigits, Answers}
+use Rattle.report.specs.Reported.{TextOf, Reported}
+use Rattle.report.specs.Internal.Steps.{WroteAt, FourDigits, PaneAnswers}
 use Rattle.report.proofs.Wrote.{wrote-front}
 
 pub reported :
-    (o : Outcome) (text before after : List ℕ) (end : ℕ) → TextOf o text → Wrote text 0 before after end →
+    (o : Outcome) (text before after : List ℕ) (end : ℕ) → TextOf o text → WroteAt text 0 before after end →
     Reported o before after end
 reported o text before after end is w =
     let f = wrote-front text before after end w in
@@ -46,8 +47,10 @@ reported o text before after end is w =
       of-file = is;
       count-is = f .0;
       fits = omega (arith, min-le-right end (length after), long);
-      bytes = f .1;
-      later-kept = f .2;
+      written = record {
+        front = subst (λ (n : ℕ). take n after ≡ text) (f .0) (f .1);
+        later-kept = subst (λ (n : ℕ). drop n after ≡ drop n before) (f .0) (f .2);
+      };
     }
 
 pub printed-refusal :
@@ -59,11 +62,11 @@ module _ (job : Job) (read : ReadJob job) where
   schedule = scheduleOf (glassesOf job) (stocksOf (glassesOf job)) (panesOf job)
 
   -- The ids of a job have at most four digits.
-  glass-short : (g : ℕ) → g < length (schedule .glasses) → getD (schedule .glasses) g 0 ≤ 9999
+  glass-short : (g : ℕ) → g < length (schedule .glass-ids) → getD (schedule .glass-ids) g 0 ≤ 9999
   glass-short g l =
       rw (List·getD-map (λ x. x .id) (glassesOf job) g blankGlass) (glass-values (read .rules) g (rw length-map at l) .id-high)
 
-  pane-short : FourDigits (schedule .panes)
+  pane-short : FourDigits (schedule .pane-ids)
   pane-short p l =
       rw (List·getD-map (λ x. x .id) (panesOf job) p blankPane) (pane-values (read .rules) p (rw length-map at l) .id-high)
 
@@ -71,13 +74,13 @@ module _ (job : Job) (read : ReadJob job) where
       (numbers : JobNumbers) (are : numbers ≡ numbersOf (glassesOf job) (panesOf job))
       (r : PlaceCounts) (answers group : Lent) (g : Glazed schedule r answers group)
     where
-      as-many : length (schedule .panes) ≡ numbers .«pane_count»
+      as-many : length (schedule .pane-ids) ≡ numbers .«pane_count»
       as-many = length-map (panesOf job) (λ x. x .id) ∙ ap (λ (n : JobNumbers). n .«pane_count») (sym are)
 
       most : numbers .«pane_count» ≤ 256
       most = omega (arith, as-many-panes job read numbers are, few-panes job read)
 
-      ids-are : take (numbers .«pane_count») (numbers .«pane_ids») ≡ schedule .panes
+      ids-are : take (numbers .«pane_count») (numbers .«pane_ids») ≡ schedule .pane-ids
       ids-are = pane-ids-lent numbers (glassesOf job) (panesOf job) are
 
       -- The answers are the ids of the placing, and the group its group.
@@ -109,18 +112,18 @@ module _ (job : Job) (read : ReadJob job) where
           go (inr p) = omega (arith, p .is-id, glass-short (p .place) (p .within))
 
       group-short : FourDigits (g .group-ids)
-      group-short = go (same-or-not (r .placed) (length (schedule .panes)))
+      group-short = go (same-or-not (r .placed) (length (schedule .pane-ids)))
         where
           of-panes : ShortGroup schedule (g .group-ids) → FourDigits (g .group-ids)
           of-panes s k l = let p = s .of-panes k l in omega (arith, p .is-id, pane-short (p .place) (p .within))
 
           go :
-              (r .placed ≡ length (schedule .panes)) ⊎ (r .placed ≡ length (schedule .panes) → ⊥) → FourDigits (g .group-ids)
+              (r .placed ≡ length (schedule .pane-ids)) ⊎ (r .placed ≡ length (schedule .pane-ids) → ⊥) → FourDigits (g .group-ids)
           go (inl all) = λ k l. absurd (omega (arith, ap length (g .glazing .if-equal all)))
           go (inr less) = of-panes (g .glazing .if-less less)
 
       pub printable :
-          Answers (take (numbers .«pane_count») (numbers .«pane_ids»)) (take (numbers .«pane_count») (answers .after))
+          PaneAnswers (take (numbers .«pane_count») (numbers .«pane_ids»)) (take (numbers .«pane_count») (answers .after))
           × FourDigits (take (r .group) (group .after)) × (r .placed ≤ 256)
       printable =
           rw (ids-are, answers-are, listed-are) (
@@ -147,7 +150,7 @@ module _ (job : Job) (read : ReadJob job) where
       printed o is =
           rw is
           (record {
-            ids = g .ids;
+            answers = g .ids;
             group = g .group-ids;
             placed = r .placed;
             glazing = g .glazing;

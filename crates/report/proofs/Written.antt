@@ -20,7 +20,7 @@ use Rattle.basics.specs.Choice.{if_then_else_}
 use Rattle.job_line.specs.Bytes.{space, newline}
 use Rattle.job_line.specs.WrittenNumber.{writtenDigits, digitCount, writtenNumber, writtenNumbers}
 use Rattle.report.specs.Text.{pairLine, paneLines}
-use Rattle.report.specs.Steps.{FourDigits, Answers}
+use Rattle.report.specs.Internal.Steps.{FourDigits, PaneAnswers}
 
 pub digits-length : (count n : ℕ) → length (writtenDigits count n) ≡ count
 unfolding writtenDigits
@@ -112,7 +112,7 @@ pair-long a b m n =
     )
 
 pub panes-long :
-    (ids answers : List ℕ) → Answers ids answers →
+    (ids answers : List ℕ) → PaneAnswers ids answers →
     (n : ℕ) → n ≤ length answers → length (paneLines ids answers n) ≤ 10 * n
 unfolding paneLines
 panes-long ids answers a zero l = omega arith

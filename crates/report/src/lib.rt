@@ -1,6 +1,6 @@
 // The text that `canopy` prints: document 01, "The program `canopy`".
 //
-// `report` goes from the bytes of a job file to the text, for every list of bytes, as specs/Promise.antt says.
+// `report` goes from the bytes of a job file to the text, for every list of bytes, as specs/Reported.antt says.
 mod line;
 mod number;
 mod text;
@@ -13,7 +13,7 @@ use placing::place_panes;
 use text::write_placing;
 use text::write_refusal;
 ghost use Rattle.job_file.specs.File.{outcomeOf};
-ghost use Rattle.report.specs.Promise.{Reported};
+ghost use Rattle.report.specs.Reported.{Reported};
 
 // Writes the text for a file to the front of a buffer, and answers how many bytes it has. The longest text, of 256 panes that
 // are all in the short group, has 3,851.

@@ -5,12 +5,12 @@ ghost use mathlib.Core.List.{_∷_};
 ghost use lib.ListN.{length};
 ghost use Rattle.job_line.specs.Bytes.{space};
 ghost use Rattle.job_line.specs.WrittenNumber.{digitCount, writtenDigits, writtenNumber};
-ghost use Rattle.report.specs.Steps.{Wrote};
+ghost use Rattle.report.specs.Internal.Steps.{WroteAt};
 
 // Writes a space and a number of at most five digits; the place behind them.
 pub fn write_field(n: usize, text: &mut [u8], at: usize) -> usize
     requires { ⌜ (n ≤ 99999) × (at + 6 ≤ length (now text)) ⌝ }
-    ensures { λ r. ⌜ Wrote (space ∷ writtenNumber n) at (now (text .entry)) (now (text .exit)) r ⌝ }
+    ensures { λ r. ⌜ WroteAt (space ∷ writtenNumber n) at (now (text .entry)) (now (text .exit)) r ⌝ }
 {
     text[at] = b' ';
     write_number(n, text, at + 1)
@@ -19,7 +19,7 @@ pub fn write_field(n: usize, text: &mut [u8], at: usize) -> usize
 // Writes a number of at most five digits; the place behind it.
 pub fn write_number(n: usize, text: &mut [u8], at: usize) -> usize
     requires { ⌜ (n ≤ 99999) × (at + 5 ≤ length (now text)) ⌝ }
-    ensures { λ r. ⌜ Wrote (writtenNumber n) at (now (text .entry)) (now (text .exit)) r ⌝ }
+    ensures { λ r. ⌜ WroteAt (writtenNumber n) at (now (text .entry)) (now (text .exit)) r ⌝ }
 {
     write_digits(digit_count(n), n, text, at)
 }
@@ -44,7 +44,7 @@ fn digit_count(n: usize) -> usize
 // Writes the last `count` digits of a number; the place behind them.
 fn write_digits(count: usize, n: usize, text: &mut [u8], at: usize) -> usize
     requires { ⌜ at + count ≤ length (now text) ⌝ }
-    ensures { λ r. ⌜ Wrote (writtenDigits count n) at (now (text .entry)) (now (text .exit)) r ⌝ }
+    ensures { λ r. ⌜ WroteAt (writtenDigits count n) at (now (text .entry)) (now (text .exit)) r ⌝ }
 {
     let mut left = count;
     let mut rest = n;

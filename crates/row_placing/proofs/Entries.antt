@@ -7,7 +7,7 @@ use mathlib.Core.Path.{_≡_, refl}
 use mathlib.Core.List.{List, [], _∷_}
 use native.Mathlib.Omega.{arith}
 use lib.ListN.{length, getD, length-map}
-use Rattle.row_placing.specs.Schedule.{entriesAt}
+use Rattle.row_placing.specs.Internal.Entries.{entriesAt}
 
 pub entries-long : (xs places : List ℕ) → length (entriesAt xs places) ≡ length places
 entries-long xs places = length-map places (λ i. getD xs i 0)

@@ -4,21 +4,28 @@
 use Prim.Native.Nat.{ℕ, _≤_}
 use mathlib.Core.Path.{_≡_, refl, ap, sym, subst, _∙_}
 use mathlib.Core.Logic.{_⊎_, inl, inr}
+use mathlib.Core.Bool.{Bool, true, false}
 use mathlib.Core.List.{List, []}
 use native.Mathlib.Omega.{arith}
+use lib.Dec.{eqb}
 use lib.ListN.{length, getD, List·getD-eq-default}
+use borrow.Author.Tests.{eq-eqb, ne-eqb}
+use Rattle.basics.specs.Choice.{if_then_else_}
 use Rattle.ranges.proofs.Counts.{count-le}
-use Rattle.glass_set.specs.Member.{has}
-use Rattle.matching.specs.Matching.{Greatest}
-use Rattle.matching.specs.Rows.{taskOf, wayOf}
-use Rattle.row_placing.specs.Schedule.{Schedule, entriesAt}
+use Rattle.glass_set.specs.Internal.Member.{has}
+use Rattle.matching.specs.Internal.Matching.{Greatest}
+use Rattle.matching.specs.Internal.Rows.{taskOf, wayOf}
+use Rattle.row_placing.specs.Schedule.{Schedule}
+use Rattle.row_placing.specs.Internal.Entries.{entriesAt}
 use Rattle.row_placing.specs.Placing.{nonzero}
 use Rattle.row_placing.specs.ShortGroup.{ShortGroup}
-use Rattle.row_placing.specs.Glazing.{Glazing, PassingNumber, Holding}
-use Rattle.row_placing.specs.Stated.{Stated}
-use Rattle.basics.specs.Lent.{Lent, Wrote, written}
-use Rattle.row_placing.specs.Promise.{RowsGlazed}
-use Rattle.row_placing.specs.Steps.{confinedTo, Answered, confinedIds, Grouped}
+use Rattle.row_placing.specs.Glazing.{Glazing}
+use Rattle.row_placing.specs.Internal.Holding.{PassingNumber, Holding}
+use Rattle.row_placing.specs.Internal.Stated.{Stated}
+use Rattle.basics.specs.Lent.{Lent, Wrote}
+use Rattle.basics.specs.Internal.Arrays.{written}
+use Rattle.row_placing.specs.Internal.Promise.{RowsGlazed}
+use Rattle.row_placing.specs.Internal.Steps.{confinedTo, Answered, confinedIds, groupDue, Grouped}
 use Rattle.row_placing.specs.declared.PlaceCounts.{PlaceCounts}
 use Rattle.row_placing.proofs.Entries.{entries-long, entries-same}
 use Rattle.row_placing.proofs.Ids.{nonzero-le}
@@ -51,29 +58,29 @@ module _
         omega (arith, answered .placed-is)
 
     module _ (s : Schedule) (b : Stated s rows sheets64 glassIds paneIds) where
-      as-many : length held ≡ length (s .panes)
+      as-many : length held ≡ length (s .pane-ids)
       as-many = long ∙ b .a-row-each
 
       -- The ids of the glasses held are the schedule's: each is one of its glasses.
-      same-ids : entriesAt glassIds held ≡ entriesAt (s .glasses) held
+      same-ids : entriesAt glassIds held ≡ entriesAt (s .glass-ids) held
       same-ids =
-          entries-same glassIds (s .glasses) held
+          entries-same glassIds (s .glass-ids) held
           (λ p l. go p (each-held b held tight as-many best p (omega (arith, as-many))))
         where
           go :
               (p : ℕ) → (getD held p 0 ≡ 64) ⊎ PassingNumber s p (getD held p 0) →
-              getD glassIds (getD held p 0) 0 ≡ getD (s .glasses) (getD held p 0) 0
+              getD glassIds (getD held p 0) 0 ≡ getD (s .glass-ids) (getD held p 0) 0
           go p (inl none) =
               List·getD-eq-default glassIds 0 (omega (arith, none))
-              ∙ sym (List·getD-eq-default (s .glasses) 0 (omega (arith, none, b .known .few)))
+              ∙ sym (List·getD-eq-default (s .glass-ids) 0 (omega (arith, none, b .known .few)))
           go p (inr is) = b .glass-ids-are (getD held p 0) (is .within)
 
-      placed-is : placed ≡ nonzero (entriesAt (s .glasses) held)
+      placed-is : placed ≡ nonzero (entriesAt (s .glass-ids) held)
       placed-is = answered .placed-is ∙ ap nonzero same-ids
 
       glazing :
           (listed : List ℕ) → (placed ≡ length rows → listed ≡ []) → ((placed ≡ length rows → ⊥) → ShortGroup s listed) →
-          Glazing s (entriesAt (s .glasses) held) listed placed
+          Glazing s (entriesAt (s .glass-ids) held) listed placed
       glazing listed equal less = record {
         placing = is-placing b held tight as-many best;
         none-to-spare = none-spare b held tight as-many best;
@@ -81,7 +88,7 @@ module _
         all-placed =
             λ e.
             record {
-              ids = entriesAt (s .glasses) held;
+              ids = entriesAt (s .glass-ids) held;
               placing = is-placing b held tight as-many best;
               every-pane = sym placed-is ∙ e;
             };
@@ -90,27 +97,52 @@ module _
         if-less = λ left. less (λ e. left (e ∙ b .a-row-each));
       }
 
-      holding : Holding s held (entriesAt (s .glasses) held)
+      holding : Holding s held (entriesAt (s .glass-ids) held)
       holding = record { one-each = as-many; each = each-held b held tight as-many best; ids-are = refl }
 
-    -- The promise is kept if the group that was written keeps it.
+    -- What the group list is to get where all panes are placed, and where one is left over; at most an id for each pane.
+    abbrev due : List ℕ
+    due = groupDue placed paneIds rows tight
+
+    due-none : placed ≡ length rows → due ≡ []
+    due-none all = rw (eq-eqb placed (length rows) all)
+
+    due-group : (placed ≡ length rows → ⊥) → due ≡ confinedIds paneIds rows tight
+    due-group left = rw (ne-eqb placed (length rows) left)
+
+    due-few : length due ≤ length rows
+    due-few = go (eqb placed (length rows))
+      where
+        go : (all : Bool) → length (if all then [] else confinedIds paneIds rows tight) ≤ length rows
+        go true = omega arith
+        go false =
+            omega (
+              arith,
+              group-length paneIds (confinedTo rows tight) (length rows),
+              count-le (confinedTo rows tight) (length rows),
+            )
+
+    due-short : (s : Schedule) → Stated s rows sheets64 glassIds paneIds → (placed ≡ length rows → ⊥) → ShortGroup s due
+    due-short s b left =
+        rw (due-group left)
+        (short-group b held tight (as-many s b) best (λ e. left (placed-is s b ∙ e ∙ sym (b .a-row-each))))
+
+    -- The promise is kept if that is what was written.
     kept :
-        (listed : List ℕ) → length listed ≤ length rows → group .after ≡ written listed (group .before) →
-        (placed ≡ length rows → listed ≡ []) →
-        ((s : Schedule) → Stated s rows sheets64 glassIds paneIds → (placed ≡ length rows → ⊥) → ShortGroup s listed) →
-        RowsGlazed rows sheets64 glassIds paneIds held (counted (length listed)) answers group
-    kept listed few is equal less = record {
+        group .after ≡ written due (group .before) →
+        RowsGlazed rows sheets64 glassIds paneIds held (counted (length due)) answers group
+    kept is = record {
       of-any =
           λ s b.
           record {
             glazed = record {
-              ids = entriesAt (s .glasses) held;
-              group-ids = listed;
-              glazing = glazing s b listed equal (less s b);
+              ids = entriesAt (s .glass-ids) held;
+              group-ids = due;
+              glazing = glazing s b due due-none (due-short s b);
               wanted-is = b .a-row-each;
               group-is = refl;
               answers-written = subst (λ (ids : List ℕ). Wrote ids answers) (same-ids s b) answers-are;
-              group-written = wrote listed group is;
+              group-written = wrote due group is;
             };
             holding = holding s b;
           };
@@ -120,29 +152,19 @@ module _
       answers-are = answers-are;
       placed-is = answered .placed-is;
       few-placed = few-placed;
-      group-ids = listed;
       group-is = refl;
-      group-are = wrote listed group is;
-      few-listed = few;
+      group-are = wrote due group is;
+      few-listed = due-few;
     }
 
     pub rows-full :
         group .after ≡ group .before → placed ≡ length rows →
         RowsGlazed rows sheets64 glassIds paneIds held (counted 0) answers group
-    rows-full same e = kept [] (omega arith) same (λ all. refl) (λ s b less. absurd (less e))
+    rows-full same all =
+        rw (ap length (due-none all)) at (kept (rw (due-none all) same))
 
     pub rows-short :
         (count : ℕ) → (placed ≡ length rows → ⊥) → Grouped paneIds rows tight group count →
         RowsGlazed rows sheets64 glassIds paneIds held (counted count) answers group
-    rows-short count less g =
-        rw (g .count-is)
-        (kept (confinedIds paneIds rows tight)
-        (omega (
-          arith,
-          group-length paneIds (confinedTo rows tight) (length rows),
-          count-le (confinedTo rows tight) (length rows),
-        ))
-        (g .group-is)
-        (λ all. absurd (less all))
-        (λ s b left.
-        short-group b held tight (as-many s b) best (λ e. less (placed-is s b ∙ e ∙ sym (b .a-row-each)))))
+    rows-short count left g =
+        rw (g .count-is ∙ ap length (sym (due-group left))) (kept (rw (due-group left) (g .group-is)))

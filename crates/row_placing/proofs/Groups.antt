@@ -20,8 +20,9 @@ use Rattle.ids.specs.Ids.{among, Distinct}
 use Rattle.basics.proofs.Tests.{clash}
 use Rattle.ids.proofs.Distinct.{distinct-snoc}
 use Rattle.ids.proofs.Members.{among-append, among-found}
-use Rattle.ranges.specs.Ranges.{sumTo, countTo}
-use Rattle.row_placing.specs.Steps.{groupTo}
+use Rattle.ranges.specs.Ranges.{sumTo}
+use Rattle.ranges.specs.Internal.Counts.{countTo}
+use Rattle.row_placing.specs.Internal.Steps.{groupTo}
 
 -- Among a list and one number more: among the list, or that number.
 among-last : (n : ℕ) (xs : List ℕ) (x : ℕ) → among n (xs ++ (x ∷ [])) ≡ true → (among n xs ≡ true) ⊎ (x ≡ n)

@@ -10,7 +10,8 @@ use native.Mathlib.Omega.{arith}
 use lib.Dec.{eqb}
 use lib.ListN.{length, getD}
 use Rattle.basics.specs.Choice.{if_then_else_}
-use Rattle.ranges.specs.Ranges.{sumTo, one, countTo}
+use Rattle.ranges.specs.Ranges.{sumTo}
+use Rattle.ranges.specs.Internal.Counts.{one, countTo}
 use Rattle.ranges.proofs.Sums.{sum-front}
 use Rattle.ranges.proofs.Counts.{count-le}
 use Rattle.row_placing.specs.Placing.{times, nonzero}

@@ -15,3 +15,5 @@ pub mod Writes
 pub mod Glazing
 -- Some panes of a schedule.
 pub mod SomePanes
+-- What follows from the definitions, of any schedule.
+pub mod PlacingLaws

@@ -18,7 +18,7 @@ use Rattle.ids.specs.declared.IdPlace.{IdPlace}
 use Rattle.ids.specs.declared.IdPlace.the-variants.{At, Missing}
 use Rattle.ids.proofs.Lookups.{Found, place-found, place-missing}
 use Rattle.row_placing.specs.Schedule.{Schedule}
-use Rattle.row_placing.specs.Stated.{Known}
+use Rattle.row_placing.specs.Internal.Stated.{Known}
 
 -- Numbers below a bound whose ids differ where they do are told by their ids.
 module _ (ids : List ℕ) (apart : (i j : ℕ) → i < j → j < length ids → getD ids i 0 ≡ getD ids j 0 → ⊥) where
@@ -31,25 +31,25 @@ module _ (ids : List ℕ) (apart : (i j : ℕ) → i < j → j < length ids → 
       go false false below above = omega (arith, ltb-false i j below, ltb-false j i above)
 
 module _ {s : Schedule} (known : Known s) where
-  pub same-glass : (g j : ℕ) → j < length (s .glasses) → getD (s .glasses) g 0 ≡ getD (s .glasses) j 0 → g ≡ j
-  same-glass g j l e = go (ltb g (length (s .glasses))) refl
+  pub same-glass : (g j : ℕ) → j < length (s .glass-ids) → getD (s .glass-ids) g 0 ≡ getD (s .glass-ids) j 0 → g ≡ j
+  same-glass g j l e = go (ltb g (length (s .glass-ids))) refl
     where
-      go : (b : Bool) → ltb g (length (s .glasses)) ≡ b → g ≡ j
-      go true below = same-number (s .glasses) (known .glass-ids) g j (ltb-true g (length (s .glasses)) below) l e
+      go : (b : Bool) → ltb g (length (s .glass-ids)) ≡ b → g ≡ j
+      go true below = same-number (s .glass-ids) (known .glasses-differ) g j (ltb-true g (length (s .glass-ids)) below) l e
       go false past =
-          let none = List·getD-eq-default (s .glasses) 0 (ltb-false g (length (s .glasses)) past) in
+          let none = List·getD-eq-default (s .glass-ids) 0 (ltb-false g (length (s .glass-ids)) past) in
           absurd (omega (arith, none, known .id-low j l))
 
-  pub glass-test : (g j : ℕ) → j < length (s .glasses) → eqb (getD (s .glasses) g 0) (getD (s .glasses) j 0) ≡ eqb g j
+  pub glass-test : (g j : ℕ) → j < length (s .glass-ids) → eqb (getD (s .glass-ids) g 0) (getD (s .glass-ids) j 0) ≡ eqb g j
   glass-test g j l = go (eqb g j) refl
     where
-      go : (b : Bool) → eqb g j ≡ b → eqb (getD (s .glasses) g 0) (getD (s .glasses) j 0) ≡ b
-      go true same = eq-eqb _ _ (ap (λ (i : ℕ). getD (s .glasses) i 0) (eqb-true g j same))
+      go : (b : Bool) → eqb g j ≡ b → eqb (getD (s .glass-ids) g 0) (getD (s .glass-ids) j 0) ≡ b
+      go true same = eq-eqb _ _ (ap (λ (i : ℕ). getD (s .glass-ids) i 0) (eqb-true g j same))
       go false other = ne-eqb _ _ (λ e. eqb-false g j other (same-glass g j l e))
 
   pub same-pane :
-      (p q : ℕ) → p < length (s .panes) → q < length (s .panes) → getD (s .panes) p 0 ≡ getD (s .panes) q 0 → p ≡ q
-  same-pane = same-number (s .panes) (known .pane-ids)
+      (p q : ℕ) → p < length (s .pane-ids) → q < length (s .pane-ids) → getD (s .pane-ids) p 0 ≡ getD (s .pane-ids) q 0 → p ≡ q
+  same-pane = same-number (s .pane-ids) (known .panes-differ)
 
 abbrev numberAt : IdPlace → ℕ
 numberAt (At g) = g

@@ -13,15 +13,16 @@ use Rattle.basics.proofs.Tests.{both-true}
 use Rattle.ids.specs.Ids.{among}
 use Rattle.ranges.proofs.Any.{any-found}
 use Rattle.ranges.proofs.Sums.{sum-le, sum-wider}
-use Rattle.glass_set.specs.Member.{has, isWithin}
+use Rattle.glass_set.specs.Internal.Member.{has, isWithin}
 use Rattle.glass_set.proofs.Members.{within-at}
-use Rattle.matching.specs.Matching.{sheetsOf, Greatest}
-use Rattle.matching.specs.Rows.{taskOf, wayOf}
-use Rattle.row_placing.specs.Schedule.{Schedule, entriesAt}
+use Rattle.matching.specs.Internal.Matching.{sheetsOf, Greatest}
+use Rattle.matching.specs.Internal.Rows.{taskOf, wayOf}
+use Rattle.row_placing.specs.Schedule.{Schedule}
+use Rattle.row_placing.specs.Internal.Entries.{entriesAt}
 use Rattle.row_placing.specs.Placing.{nonzero}
 use Rattle.row_placing.specs.ShortGroup.{suits, sheetsFor, PaneId, ShortGroup}
-use Rattle.row_placing.specs.Stated.{Stated}
-use Rattle.row_placing.specs.Steps.{confinedTo, confinedIds}
+use Rattle.row_placing.specs.Internal.Stated.{Stated}
+use Rattle.row_placing.specs.Internal.Steps.{confinedTo, confinedIds}
 use Rattle.row_placing.proofs.Numbers.{same-pane}
 use Rattle.row_placing.proofs.Bridge.{bit-of-glass, placed-served, placed-le}
 use Rattle.row_placing.proofs.Groups.{InGroup, group-length, group-among, group-at, group-once}
@@ -39,12 +40,12 @@ module _
       group = confinedIds paneIds rows tight
 
       -- A glass that suits the group is tight.
-      suits-tight : (j : ℕ) → j < length (s .glasses) → suits s group j ≡ true → has tight j ≡ true
+      suits-tight : (j : ℕ) → j < length (s .glass-ids) → suits s group j ≡ true → has tight j ≡ true
       suits-tight j l suited =
-          let f = any-found (λ p. among (getD (s .panes) p 0) group && s .passes p j) (length (s .panes)) suited in
-          let both = both-true (among (getD (s .panes) (f .number) 0) group) (s .passes (f .number) j) (f .passed) in
-          let m = group-among paneIds (confinedTo rows tight) (length rows) (getD (s .panes) (f .number) 0) (both .0) in
-          let here : m .place < length (s .panes) = omega (arith, m .below, b .a-row-each) in
+          let f = any-found (λ p. among (getD (s .pane-ids) p 0) group && s .passes p j) (length (s .pane-ids)) suited in
+          let both = both-true (among (getD (s .pane-ids) (f .number) 0) group) (s .passes (f .number) j) (f .passed) in
+          let m = group-among paneIds (confinedTo rows tight) (length rows) (getD (s .pane-ids) (f .number) 0) (both .0) in
+          let here : m .place < length (s .pane-ids) = omega (arith, m .below, b .a-row-each) in
           let id = sym (b .pane-ids-are (m .place) here) ∙ m .is-id in
           let same = same-pane (b .known) (m .place) (f .number) here (f .below) id in
           let row = getD rows (f .number) 0 in
@@ -58,19 +59,19 @@ module _
           (sum-le
           (λ j. if suits s group j then getD (s .sheets) j 0 else 0)
           (λ j. if has tight j then getD sheets64 j 0 else 0)
-          (length (s .glasses))
+          (length (s .glass-ids))
           (λ j l. part-le _ _ _ _ (suits-tight j l) (sym (b .sheets-are j l))))
-          (sum-wider (λ j. if has tight j then getD sheets64 j 0 else 0) (length (s .glasses)) 64 (b .known .few))
+          (sum-wider (λ j. if has tight j then getD sheets64 j 0 else 0) (length (s .glass-ids)) 64 (b .known .few))
 
     module _
         (held : List ℕ)
         (tight : ℕ)
-        (long : length held ≡ length (s .panes))
+        (long : length held ≡ length (s .pane-ids))
         (best : Greatest (taskOf rows sheets64) (wayOf held) (has tight))
       where
         -- Some pane is not served, so the tight glasses have fewer sheets than the group has panes.
         tight-short :
-            (nonzero (entriesAt (s .glasses) held) ≡ length (s .panes) → ⊥) →
+            (nonzero (entriesAt (s .glass-ids) held) ≡ length (s .pane-ids) → ⊥) →
             sheetsOf (taskOf rows sheets64) (has tight) < length (confinedIds paneIds rows tight)
         tight-short left =
             let most = placed-le b held tight long best in
@@ -78,7 +79,7 @@ module _
             (best .shortage (omega (arith, placed-served b held tight long best, b .a-row-each)))
 
         pub short-group :
-            (nonzero (entriesAt (s .glasses) held) ≡ length (s .panes) → ⊥) →
+            (nonzero (entriesAt (s .glass-ids) held) ≡ length (s .pane-ids) → ⊥) →
             ShortGroup s (confinedIds paneIds rows tight)
         short-group left = record {
           not-empty = omega (arith, tight-short left);
@@ -87,7 +88,7 @@ module _
           short = omega (arith, tight-short left, sheets-fewer tight);
         }
           where
-            id-at : (p : ℕ) → p < length rows → getD paneIds p 0 ≡ getD (s .panes) p 0
+            id-at : (p : ℕ) → p < length rows → getD paneIds p 0 ≡ getD (s .pane-ids) p 0
             id-at p l = b .pane-ids-are p (omega (arith, b .a-row-each))
 
             one-pane : (p q : ℕ) → p < length rows → q < length rows → getD paneIds p 0 ≡ getD paneIds q 0 → p ≡ q

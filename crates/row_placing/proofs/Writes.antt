@@ -11,11 +11,12 @@ use native.Mathlib.Omega.{arith}
 use lib.Dec.{eqb}
 use lib.ListN.{length, getD, set, take, length-append}
 use Rattle.basics.specs.Choice.{if_then_else_}
-use Rattle.row_placing.specs.Schedule.{entriesAt}
+use Rattle.row_placing.specs.Internal.Entries.{entriesAt}
 use Rattle.row_placing.specs.Placing.{nonzero}
-use Rattle.basics.specs.Lent.{lent, written}
+use Rattle.basics.specs.Lent.{lent}
+use Rattle.basics.specs.Internal.Arrays.{written}
 use Rattle.basics.proofs.Lent.{written-next, written-map, map-next, map-long}
-use Rattle.row_placing.specs.Steps.{groupTo, Answered}
+use Rattle.row_placing.specs.Internal.Steps.{groupTo, Answered}
 use Rattle.row_placing.proofs.Ids.{nonzero-le}
 
 nonzero-last : (xs : List ℕ) (x : ℕ) → nonzero (xs ++ (x ∷ [])) ≡ nonzero xs + (if eqb x 0 then 0 else 1)

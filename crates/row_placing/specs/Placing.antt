@@ -1,4 +1,5 @@
--- What may be given to panes: document 01, "The placing", and demand 2.
+-- Document 01, "The placing", and demand 2: what may be given to panes. A pane has no glass but one that passes for it, and a glass goes
+-- to no more panes than it has sheets.
 use Prim.Native.Nat.{ℕ, _+_, _≤_, _<_}
 use mathlib.Core.Path.{_≡_}
 use mathlib.Core.Logic.{_⊎_}
@@ -19,29 +20,29 @@ unfoldable pub nonzero : List ℕ → ℕ
 nonzero [] = 0
 nonzero (x ∷ xs) = (if eqb x 0 then 0 else 1) + nonzero xs
 
--- A number is the id of a glass that passes for a pane.
-pub record PassingId (s : Schedule) (pane id : ℕ) : Type 0 where
+-- A number is the id of a glass, at some place, that passes for the pane at place p.
+pub record PassingId (s : Schedule) (p id : ℕ) : Type 0 where
   pub place : ℕ
-  pub within : place < length (s .glasses)
-  pub is-id : getD (s .glasses) place 0 ≡ id
-  pub passing : s .passes pane place ≡ true
+  pub within : place < length (s .glass-ids)
+  pub is-id : getD (s .glass-ids) place 0 ≡ id
+  pub passing : s .passes p place ≡ true
 
 -- A way to give panes glasses, as a list with an entry for each pane in order: the id of a glass that passes for it, or 0 where
--- it has none. No glass is given more often than it has sheets.
+-- it has none. No glass is given more often than it has sheets. In a file ids differ, and none is 0.
 pub record Placing (s : Schedule) (ids : List ℕ) : Type 0 where
-  pub one-each : length ids ≡ length (s .panes)
-  pub passing : (i : ℕ) → i < length (s .panes) → (getD ids i 0 ≡ 0) ⊎ PassingId s i (getD ids i 0)
-  pub in-stock : (j : ℕ) → j < length (s .glasses) → times (getD (s .glasses) j 0) ids ≤ getD (s .sheets) j 0
+  pub one-each : length ids ≡ length (s .pane-ids)
+  pub passing : (i : ℕ) → i < length (s .pane-ids) → (getD ids i 0 ≡ 0) ⊎ PassingId s i (getD ids i 0)
+  pub in-stock : (j : ℕ) → j < length (s .glass-ids) → times (getD (s .glass-ids) j 0) ids ≤ getD (s .sheets) j 0
 
 -- Where a pane has no glass, every sheet that it could have is given away.
 abbrev pub NoneToSpare : Schedule → List ℕ → Type 0
 NoneToSpare s ids =
-    (i : ℕ) → i < length (s .panes) → getD ids i 0 ≡ 0 →
-    (j : ℕ) → j < length (s .glasses) → s .passes i j ≡ true →
-    times (getD (s .glasses) j 0) ids ≡ getD (s .sheets) j 0
+    (i : ℕ) → i < length (s .pane-ids) → getD ids i 0 ≡ 0 →
+    (j : ℕ) → j < length (s .glass-ids) → s .passes i j ≡ true →
+    times (getD (s .glass-ids) j 0) ids ≡ getD (s .sheets) j 0
 
 -- A placing that leaves no pane without a glass.
 pub record FullPlacing (s : Schedule) : Type 0 where
   pub ids : List ℕ
   pub placing : Placing s ids
-  pub every-pane : nonzero ids ≡ length (s .panes)
+  pub every-pane : nonzero ids ≡ length (s .pane-ids)

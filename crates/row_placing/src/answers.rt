@@ -5,7 +5,7 @@ ghost use lib.Dec.{eqb};
 ghost use lib.ListN.{length};
 ghost use Rattle.basics.specs.Choice.{if_then_else_};
 ghost use Rattle.basics.specs.Lent.{lent};
-ghost use Rattle.row_placing.specs.Steps.{Answered};
+ghost use Rattle.row_placing.specs.Internal.Steps.{Answered};
 
 // Writes the id of each pane's glass, or 0 where `held` has no number of one, and counts the ids that are not 0.
 pub fn write_answers(held: &[usize], ids: &[u32], answers: &mut [u32]) -> usize

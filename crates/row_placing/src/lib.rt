@@ -1,7 +1,7 @@
 // The placing over rows: document 01, "The placing".
 //
 // `place_rows` gives panes sheets. It knows of no file and no clause: panes of any kind bring a row and an id each, glasses their
-// sheets and ids. specs/Promise.antt says what it gives.
+// sheets and ids. specs/Internal/Promise.antt says what it gives.
 mod answers;
 mod group;
 
@@ -12,7 +12,7 @@ ghost use mathlib.Core.Path.{_≡_};
 ghost use Prim.Native.Nat.{_≤_};
 ghost use lib.ListN.{length};
 ghost use Rattle.basics.specs.Lent.{lent};
-ghost use Rattle.row_placing.specs.Promise.{RowsGlazed};
+ghost use Rattle.row_placing.specs.Internal.Promise.{RowsGlazed};
 
 // How many panes there are, how many were given a glass and how many the short group has.
 pub struct PlaceCounts {

@@ -9,9 +9,9 @@ use native.Mathlib.Omega.{arith}
 use borrow.Author.Tests.{leb-true, le-leb}
 use lib.Dec.{leb}
 use lib.ListN.{getD}
-use Rattle.ranges.specs.Ranges.{allTo}
+use Rattle.ranges.specs.Internal.Counts.{allTo}
 use Rattle.ranges.proofs.All.{all-at}
-use Rattle.span_table.specs.Spans.{spans, tableOf, loadOf, thicknessOf}
+use Rattle.span_table.specs.Spans.{spans, tableNumber, loadNumber, thicknessNumber}
 use Rattle.span_table.specs.SpanRule.{SpanRule}
 use Rattle.span_table.proofs.Rows.{table-high, load-high, thickness-high, nominal-is}
 
@@ -49,7 +49,7 @@ at-entries table load thin thick column later t l i j c d thicker earlier =
 pub span-rule : (kind load : ℕ) → SpanRule kind load
 span-rule kind load = record {
   with-thickness = λ thin thick column n m thicker within.
-      at-entries (tableOf kind) (loadOf load) (thicknessOf thin) (thicknessOf thick) column column
+      at-entries (tableNumber kind) (loadNumber load) (thicknessNumber thin) (thicknessNumber thick) column column
       (omega (arith, table-high kind))
       (omega (arith, load-high load))
       (omega (arith, thickness-high thin))
@@ -59,7 +59,7 @@ span-rule kind load = record {
       (omega (arith, nominal-is thin n, nominal-is thick m))
       (omega arith);
   along-columns = λ thick column later earlier within.
-      at-entries (tableOf kind) (loadOf load) (thicknessOf thick) (thicknessOf thick) column later
+      at-entries (tableNumber kind) (loadNumber load) (thicknessNumber thick) (thicknessNumber thick) column later
       (omega (arith, table-high kind))
       (omega (arith, load-high load))
       (omega (arith, thickness-high thick))

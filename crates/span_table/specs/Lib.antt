@@ -2,5 +2,4 @@
 pub mod Spans
 -- What holds of the whole table.
 pub mod SpanRule
--- What the functions ask.
-pub mod Steps
+pub mod Internal

@@ -10,15 +10,15 @@ use native.Mathlib.Nat.{mul-le-mul, max-le}
 use native.Mathlib.Omega.{arith}
 use lib.Dec.{eqb}
 use Rattle.basics.proofs.Tests.{if-high}
-use Rattle.job_glass.specs.Values.{GlassValues}
+use Rattle.job_glass.specs.Internal.Values.{GlassValues}
 use Rattle.job_glass.specs.declared.Glass.{Glass}
-use Rattle.job_pane.specs.Values.{PaneValues}
+use Rattle.job_pane.specs.Internal.Values.{PaneValues}
 use Rattle.job_pane.specs.declared.Pane.{Pane}
 use Rattle.dead_loads.proofs.DeadLoads.{in-place}
 use Rattle.point_load.specs.Support.{spanOf}
 use Rattle.uniform_load.specs.GlassLoads.{maxDeadLoad, minDeadLoad}
 use Rattle.uniform_load.specs.UniformLoad.{spanConstant}
-use Rattle.uniform_load.specs.Steps.{uniformLoadOf, pressureOn, UniformValues}
+use Rattle.uniform_load.specs.Internal.Steps.{uniformLoadOf, pressureOn, UniformValues}
 use Rattle.uniform_load.specs.declared.UniformLoad.{UniformLoad}
 
 module _ {g : Glass} (values : GlassValues g) where

@@ -3,17 +3,14 @@
 use Prim.Native.Nat.{ℕ, _+_, _-_, _*_, _/_}
 use Rattle.job_glass.specs.declared.Glass.{Glass}
 
--- Division to a whole number, up and down.
+-- Division, rounded up; `/` rounds down.
 abbrev pub dividedUp : ℕ → ℕ → ℕ
 dividedUp n d = (n + (d - 1)) / d
 
-abbrev pub dividedDown : ℕ → ℕ → ℕ
-dividedDown n d = n / d
-
 -- The maximum, from that of its row, rounded up.
-abbrev pub maxDeadLoad : ℕ → Glass → ℕ
-maxDeadLoad maximum g = dividedUp (maximum * g .thick) 6
+abbrev pub maxDeadLoad : (rowMaximum : ℕ) → Glass → ℕ
+maxDeadLoad rowMaximum g = dividedUp (rowMaximum * g .thick) 6
 
 -- The minimum, from that of its row, rounded down.
-abbrev pub minDeadLoad : ℕ → Glass → ℕ
-minDeadLoad minimum g = dividedDown (minimum * g .thick) 6
+abbrev pub minDeadLoad : (rowMinimum : ℕ) → Glass → ℕ
+minDeadLoad rowMinimum g = rowMinimum * g .thick / 6

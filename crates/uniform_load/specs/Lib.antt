@@ -2,5 +2,4 @@
 pub mod GlassLoads
 pub mod Wind
 pub mod UniformLoad
--- What the code promises, step by step.
-pub mod Steps
+pub mod Internal

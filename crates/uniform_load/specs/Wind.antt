@@ -1,4 +1,4 @@
--- Document 01, "The job file": "down and up 0 to 1000, ultimate wind pressure in units of 0.01 kPa".
+-- The wind on a pane, down and up, in units of 0.01 kPa: as its line states it (document 01, "The job file").
 use Rattle.job_pane.specs.declared.Pane.{Pane}
 use Rattle.uniform_load.specs.declared.wind.Pressures.{Pressures}
 

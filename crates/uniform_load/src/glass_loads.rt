@@ -2,7 +2,7 @@
 use job_glass::Glass;
 ghost use mathlib.Core.Path.{_≡_};
 ghost use Prim.Native.Nat.{_≤_};
-ghost use Rattle.job_glass.specs.Values.{GlassValues};
+ghost use Rattle.job_glass.specs.Internal.Values.{GlassValues};
 ghost use Rattle.uniform_load.specs.GlassLoads.{maxDeadLoad, minDeadLoad};
 
 // The maximum dead load of a glass, by its row's maximum.

@@ -13,9 +13,9 @@ use pressure::span_constant;
 pub use wind::Pressures;
 use wind::pressures_of;
 ghost use mathlib.Core.Path.{_≡_};
-ghost use Rattle.job_glass.specs.Values.{GlassValues};
-ghost use Rattle.job_pane.specs.Values.{PaneValues};
-ghost use Rattle.uniform_load.specs.Steps.{uniformLoadOf, overloaded, UniformValues};
+ghost use Rattle.job_glass.specs.Internal.Values.{GlassValues};
+ghost use Rattle.job_pane.specs.Internal.Values.{PaneValues};
+ghost use Rattle.uniform_load.specs.Internal.Steps.{uniformLoadOf, overloaded, UniformValues};
 
 // What clause 4 reads of a pane, for every glass that it is tried with.
 pub struct UniformLoad {

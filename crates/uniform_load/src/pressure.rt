@@ -4,9 +4,9 @@ use crate::glass_loads::max_dead_load;
 use crate::glass_loads::min_dead_load;
 use job_glass::Glass;
 ghost use mathlib.Core.Path.{_≡_};
-ghost use Rattle.job_glass.specs.Values.{GlassValues};
+ghost use Rattle.job_glass.specs.Internal.Values.{GlassValues};
 ghost use Rattle.uniform_load.specs.UniformLoad.{spanConstant};
-ghost use Rattle.uniform_load.specs.Steps.{pressureOn, UniformValues};
+ghost use Rattle.uniform_load.specs.Internal.Steps.{pressureOn, UniformValues};
 
 // P, in units of 0.01 kPa. What the glass's own weight leaves of the uplift is the larger where the uplift is above both
 // together; so no difference is below 0.

@@ -9,14 +9,17 @@ use denote.Ref.{now}
 use Rattle.job_glass.specs.GlassLine.{blankGlass}
 use Rattle.job_pane.specs.PaneLine.{blankPane}
 use Rattle.job_file.specs.File.{outcomeOf}
-use Rattle.job_file.specs.Job.{glassesOf, panesOf, glassIdsOf, paneIdsOf}
+use Rattle.job_file.specs.Internal.Job.{glassesOf, panesOf}
+use Rattle.job_file.specs.Entries.{glassIdsOf, paneIdsOf}
 use Rattle.job_file.specs.declared.job.Job.{Job}
 use Rattle.job_file.proofs.Laws.{JobOf, job-read, refusal-read, glass-count, pane-count, few-glasses, few-panes, glass-at, pane-at}
 use Rattle.job_file.proofs.Laws.{as-many-glasses, as-many-panes, glass-ids-lent, pane-ids-lent}
 use Rattle.clauses.specs.Verdict.{verdictOf}
-use Rattle.clauses.specs.Answer.{verdictSays, pairOf, pairAnswer, answerOf}
+use Rattle.causes.specs.Answer.{gives}
+use Rattle.clauses.specs.VerdictAnswer.{verdictAnswer}
+use Rattle.clauses.specs.Internal.Pair.{pairOf, pairAnswer}
 use Rattle.clauses.specs.declared.question.PairPlace.{PairPlace}
-use Rattle.clauses.proofs.Answers.{pair-within}
+use Rattle.clauses.proofs.Answers.{answer-pair, pair-within}
 use Rattle.clauses.proofs.verdict.Statement.{statement}
 use Rattle.clauses.proofs.verdict.Tie as tie
 
@@ -56,12 +59,14 @@ pair-is f =
 answer-is :
     (f : tie.After-find-pair) (pair : PairPlace) → f .find-pair .result ≡ pair →
     let k = made f .before in
-    answerOf (outcomeOf (now (start k .args .file))) (start k .args .pane) (start k .args .glass)
+    verdictAnswer (outcomeOf (now (start k .args .file))) (start k .args .pane) (start k .args .glass)
     ≡ pairAnswer (glassesOf (job k)) (panesOf (job k)) pair
-unfolding answerOf
 answer-is f pair found =
     let k = made f .before in
-    rw (is-job k .outcome, answerOf) (ap (pairAnswer (glassesOf (job k)) (panesOf (job k))) (sym (pair-is f) ∙ found))
+    let gs = glassesOf (job k) in
+    let ps = panesOf (job k) in
+    rw (is-job k .outcome)
+    (answer-pair gs ps (start k .args .pane) (start k .args .glass) ∙ ap (pairAnswer gs ps) (sym (pair-is f) ∙ found))
 
 -- The pane and the glass that were found are of the job.
 within :
@@ -116,14 +121,14 @@ judge-requires c κs =
     (pane-at (job k) (is-job k .read) _ (within p .0), glass-at (job k) (is-job k .read) _ (within p .1))
 
 refused : tie.Need-returns
-unfolding answerOf
+unfolding verdictAnswer
 refused c =
     let k = c .before in
     let r = k .before .before in
     let v = k .checked .given in
     rw (
       refusal-read (now (r .before .before .args .file)) (r .read-job .result) (v .0 .0) (v .0 .1 .0) (r .read-job .ensures) (v .1),
-      answerOf,
+      verdictAnswer,
     )
 
 unknown : tie.Need-returns-2
@@ -138,7 +143,7 @@ judged c =
     let f = p .before .before in
     let k = made f .before in
     let j = job k in
-    ap verdictSays
+    ap gives
     (c .judge .ensures
     ∙ ap₂ verdictOf (sym (getD-take (j .«pane_count») (j .panes) _ blankPane (within p .0)))
     (sym (getD-take (j .«glass_count») (j .glasses) _ blankGlass (within p .1))))

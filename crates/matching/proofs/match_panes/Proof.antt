@@ -7,7 +7,7 @@ use mathlib.Core.Path.{_≡_, refl, ap, sym, subst⁻¹, _∙_}
 use mathlib.Core.List.{List}
 use lib.ListN.{length, getD, getD-replicate}
 use denote.Ref.{now}
-use Rattle.matching.specs.Steps.{Served}
+use Rattle.matching.specs.Internal.Steps.{Served}
 use Rattle.matching.proofs.Cases.{served-of, not-served-of}
 use Rattle.matching.proofs.Standing.{Standing, standing-first, standing-last}
 use Rattle.matching.proofs.Turns.{servable, some-left, standing-moved, standing-stuck}

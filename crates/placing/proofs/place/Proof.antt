@@ -9,9 +9,9 @@ use borrow.Author.Tests.{ltb-false}
 use denote.Ref.{now}
 use Rattle.basics.proofs.Tests.{both-false}
 use Rattle.job_file.specs.File.{outcomeOf}
-use Rattle.job_file.specs.Job.{panesOf}
+use Rattle.job_file.specs.Internal.Job.{panesOf}
 use Rattle.job_file.proofs.Laws.{JobOf, job-read, refusal-read, pane-count}
-use Rattle.placing.specs.Promise.{countsSay}
+use Rattle.causes.specs.Answer.{gives}
 use Rattle.placing.proofs.Promises.{promised-refusal, promised-short, promised-counted}
 use Rattle.placing.proofs.place.Statement.{statement}
 use Rattle.placing.proofs.place.Tie as tie
@@ -71,9 +71,9 @@ counted c =
     let k = e .before .before .before in
     let a = start (read k) .args in
     promised-counted (outcomeOf (now (a .file))) (now (a .answers)) (now (a .group)) _ _ (job k .outcome)
-    (countsSay (p .place-panes .result)) (p .place-panes .last .1 .0) (p .place-panes .last .1 .1 .0)
+    (gives (p .place-panes .result)) (p .place-panes .last .1 .0) (p .place-panes .last .1 .1 .0)
     (test-is k false (e .if1 .left))
-    (record { of = p .place-panes .result; result = refl; glazed = p .place-panes .ensures })
+    (record { counts = p .place-panes .result; result-is = refl; glazed = p .place-panes .ensures })
 
 pub place-spec : {M : Type 1} → statement M
 place-spec =

@@ -5,13 +5,13 @@ use Prim.Native.Nat.{ℕ, _+_, _-_, _≤_}
 use mathlib.Core.Path.{_≡_, refl, ap, sym, _∙_}
 use lib.ListN.{length}
 use denote.Ref.{now}
-use Rattle.check_job.specs.Place.{newlines, lineOf}
+use Rattle.check_job.specs.Internal.Place.{newlines, lineNumber}
 use Rattle.check_job.proofs.Newlines.{line-more, line-same, line-whole}
 use Rattle.check_job.proofs.place.line_number.Statement.{statement}
 use Rattle.check_job.proofs.place.line_number.Tie as tie
 
 abbrev Inv-loop : tie.InvT-loop
-Inv-loop file offset line₀ i₀ line i = (line ≡ lineOf file i) × (line ≤ i + 1) × (i ≤ offset) × (i ≤ length file)
+Inv-loop file offset line₀ i₀ line i = (line ≡ lineNumber file i) × (line ≤ i + 1) × (i ≤ offset) × (i ≤ length file)
 
 abbrev μ-loop : tie.MeasureT-loop
 μ-loop file offset line₀ i₀ line i = length file - i
@@ -24,7 +24,7 @@ found : tie.Need-returns Inv-loop μ-loop
 found c =
     let l = c .before .before .loop in
     let file = now (c .before .before .before .args .file) in
-    l .inv .0 ∙ ap (lineOf file) (c .if1 .taken)
+    l .inv .0 ∙ ap (lineNumber file) (c .if1 .taken)
 
 more : tie.Need-loop-again Inv-loop μ-loop
 more c =

@@ -1,7 +1,7 @@
 -- `judge` meets its contract: the pane is loaded, and the tables are made, for the one glass.
 use borrow.Author.Needs.{needs}
 use mathlib.Core.Path.{ap, sym, _∙_}
-use Rattle.clauses.specs.Loaded.{loadedOf}
+use Rattle.clauses.specs.Internal.Loaded.{loadedOf}
 use Rattle.clauses.specs.declared.judging.LoadedPane.{LoadedPane}
 use Rattle.clauses.proofs.judging.judge.Statement.{statement}
 use Rattle.clauses.proofs.judging.judge.Tie as tie

@@ -1,7 +1,7 @@
 -- `sets::is_seen` meets its contract: the lowest bit of the shifted word is the id's.
 use borrow.Author.Needs.{needs}
 use lib.Bits.{and-mask}
-use Rattle.bits.specs.Bit.{has}
+use Rattle.bits.specs.Internal.Bit.{has}
 use Rattle.ids.proofs.sets.is_seen.Statement.{statement}
 use Rattle.ids.proofs.sets.is_seen.Tie as tie
 

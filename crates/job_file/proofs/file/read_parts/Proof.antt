@@ -5,6 +5,9 @@ use native.Mathlib.Omega.{arith}
 use mathlib.Core.Path.{_≡_}
 use lib.ListN.{length}
 use denote.Ref.{now}
+use Rattle.job_part.proofs.Ends.{part-stopped, part-whole}
+use Rattle.job_glass.specs.GlassLine.{glassForm}
+use Rattle.job_pane.specs.PaneLine.{paneForm}
 use Rattle.job_file.specs.File.{part}
 use Rattle.job_file.proofs.Files.{part-end, parts-glass, parts-pane, parts-whole, job-whole}
 use Rattle.job_file.proofs.file.read_parts.Statement.{statement}
@@ -25,7 +28,7 @@ glass-stopped c =
     let a = s .args in
     let v = k .first-end .given in
     rw (parts-glass (now (a .file)) (a .glass) (a .pane) (a .end) (v .0 .0) (v .0 .1 .0)
-    (rw (glass-end s, v .1) at (r .read-glasses .ensures)))
+    (part-stopped glassForm _ _ _ _ _ _ (rw (glass-end s, v .1) at (r .read-glasses .ensures))))
     (c .refusal .ensures)
 
 pane-stopped : tie.Need-returns-2
@@ -37,9 +40,9 @@ pane-stopped c =
     let s = r₁ .before .before .before in
     let a = s .args in
     let v = k .second-end .given in
-    let first = rw (glass-end s, k₁ .first-end2 .given .1) at (r₁ .read-glasses .ensures) in
-    rw (parts-pane (now (a .file)) (a .glass) (a .pane) (a .end) _ (first .entries) (v .0 .0) (v .0 .1 .0)
-    (rw (pane-end s, v .1) at (r .read-panes .ensures)))
+    let first = part-whole glassForm _ _ _ _ _ (rw (glass-end s, k₁ .first-end2 .given .1) at (r₁ .read-glasses .ensures)) in
+    rw (parts-pane (now (a .file)) (a .glass) (a .pane) (a .end) (first .entries) (first .lines-are) (v .0 .0) (v .0 .1 .0)
+    (part-stopped paneForm _ _ _ _ _ _ (rw (pane-end s, v .1) at (r .read-panes .ensures))))
     (c .refusal2 .ensures)
 
 whole : tie.Need-returns-3
@@ -50,10 +53,10 @@ whole c =
     let r₁ = k₁ .before .before in
     let s = r₁ .before .before .before in
     let a = s .args in
-    let first = rw (glass-end s, k₁ .first-end2 .given .1) at (r₁ .read-glasses .ensures) in
-    let second = rw (pane-end s, k .second-end2 .given .1) at (r .read-panes .ensures) in
-    rw (parts-whole (now (a .file)) (a .glass) (a .pane) (a .end) _ (first .entries) _ (second .entries))
-    (job-whole _ _ _ _ _ _ first second)
+    let first = part-whole glassForm _ _ _ _ _ (rw (glass-end s, k₁ .first-end2 .given .1) at (r₁ .read-glasses .ensures)) in
+    let second = part-whole paneForm _ _ _ _ _ (rw (pane-end s, k .second-end2 .given .1) at (r .read-panes .ensures)) in
+    rw (parts-whole (now (a .file)) (a .glass) (a .pane) (a .end) (first .entries) (first .lines-are) (second .entries) (second .lines-are))
+    (job-whole _ _ _ _ _ _ _ _ first second)
 
 pub read-parts-spec : {M : Type 1} → statement M
 read-parts-spec =

@@ -1,44 +1,61 @@
--- `trailer::read_trailer` meets its contract: the letter, the glass offset, and the rest.
+-- `trailer::read_trailer` meets its contract: with the length and what the calls return put in, its test is the definition's.
 use borrow.Author.Needs.{needs}
-use mathlib.Core.Path.{sym, _∙_}
-use lib.ListN.{drop}
+use borrow.Author.Tests.{eq-eqb}
+use lib.ListN.{length}
 use denote.Ref.{now}
-use Rattle.job_file.proofs.Trailers.{trailer-other, trailer-none, trailer-rest}
+use Rattle.job_file.specs.File.{trailer}
 use Rattle.job_file.proofs.trailer.read_trailer.Statement.{statement}
 use Rattle.job_file.proofs.trailer.read_trailer.Tie as tie
 
-other : tie.Need-returns
-other c =
-    let a = c .before .before .before .args in
-    trailer-other (now (a .s)) (λ same. c .if1 .taken (c .before .byte-at .ensures ∙ same))
+-- Where all bytes are read: the start, and the two tests of digits.
+module _ (c : tie.After-shared-slice-known15) where
+  abbrev second : tie.After-are-digits2
+  second = c .before
+
+  abbrev first : tie.After-are-digits
+  first = second .before .before
+
+  abbrev start : tie.Start
+  start = first .before .before .before .before .before .before .before .before .before .before .before .before .before .before
+
+whole : tie.Need-returns
+unfolding trailer
+whole c =
+    let test = c .before .before in
+    let read = test .before in
+    rw (
+      eq-eqb (length (now (start read .args .s))) 14 (start read .pre),
+      ← first read .are-digits .ensures,
+      ← second read .are-digits2 .ensures,
+      test .if1 .taken,
+      ← c .before .five-digits .ensures,
+      ← c .five-digits2 .ensures,
+    )
 
 none : tie.Need-returns-2
+unfolding trailer
 none c =
-    let r = c .before .before in
-    let e = r .before in
-    let a = e .before .before .before .args in
-    trailer-none (now (a .s)) (sym (e .before .byte-at .ensures) ∙ e .if1 .left) (rw (c .enum-told .given .1) at (r .read-offset .ensures))
-
-rest : tie.Need-returns-3
-rest c =
-    let k = c .before .before in
-    let r = k .before .before in
-    let e = r .before in
-    let a = e .before .before .before .args in
-    let v = k .glass .given in
-    rw (trailer-rest (now (a .s)) (v .0 .0) (drop (v .0 .1 .0) (now (a .s))) (sym (e .before .byte-at .ensures) ∙ e .if1 .left) ((rw (v .1) at (r .read-offset .ensures)) .0))
-    (c .read-rest .ensures)
+    let read = c .before in
+    rw (
+      eq-eqb (length (now (start read .args .s))) 14 (start read .pre),
+      ← first read .are-digits .ensures,
+      ← second read .are-digits2 .ensures,
+      c .if1 .left,
+    )
 
 pub read-trailer-spec : {M : Type 1} → statement M
 read-trailer-spec =
     tie.close
     (tie.spec
-    (λ c κs. search needs)
-    other
-    (λ c κs. search needs)
-    (λ c. search needs)
+    (λ c. search needs) (λ c. search needs) (λ c. search needs) (λ c. search needs) (λ c. search needs)
+    (λ c. search needs) (λ c. search needs) (λ c. search needs) (λ c. search needs) (λ c. search needs)
     (λ c. search needs)
     (λ c. search needs)
     (λ c κs. search needs)
-    none
-    rest)
+    (λ c. search needs)
+    (λ c κs. search needs)
+    (λ c. search needs)
+    (λ c κs. search needs)
+    (λ c κs. search needs)
+    whole
+    none)

@@ -10,10 +10,10 @@ use mathlib.Core.Bool.{true, false}
 use mathlib.Core.List.{List}
 use lib.ListN.{length, getD, length-set}
 use Rattle.basics.proofs.Tests.{differ}
-use Rattle.glass_set.specs.Member.{has, unvisited}
-use Rattle.matching.specs.Steps.{Grown}
+use Rattle.glass_set.specs.Internal.Member.{has, unvisited}
+use Rattle.matching.specs.Internal.Steps.{Grown}
 use Rattle.glass_set.proofs.Members.{unvisited-le}
-use Rattle.matching.specs.Steps.{Unseen, NotFreed}
+use Rattle.matching.specs.Internal.Steps.{Unseen, NotFreed}
 use Rattle.matching.proofs.Growth.{unseen-back, grown-none}
 use Rattle.matching.proofs.Serving.{serve-spare, serve-moved, serve-on}
 use Rattle.matching.proofs.Freeing.{free-moved, Passed, free-other, free-on}
@@ -176,7 +176,7 @@ serve-takes-spare t c =
     let a = s .args in
     let h =
     at-hand (getD (now (a .rows)) (a .pane) 0) (a .spare) (a .seen) (b .both .result) (m .minus .result)
-    (b .both .ensures) (m .minus .ensures) (c .first .result) (c .first .ensures .0) (c .first .ensures .1) in
+    (b .both .ensures) (m .minus .ensures) (c .first .result) (c .first .ensures .below) (c .first .ensures .member) in
     serve-spare (now (a .rows)) (now (a .held)) (a .pane) (a .spare) (a .seen) (c .first .result) (s .pre .1) (h .2) (h .1) (h .0)
 
 serve-write-spare : (t : ℕ) → serve-lts.Need-slice-write-held (serve-calls t) (serve-at t) serve.Post serve-Inv serve-μ
@@ -227,7 +227,7 @@ module _ (t : ℕ) (w : serve-lts.After-with (serve-calls t) (serve-at t) serve.
   choice =
       let f = w .before .before in
       let m = f .before .before in
-      rest-at row marked (m .minus2 .result) (m .minus2 .ensures) glass (f .first2 .ensures .0) (f .first2 .ensures .1)
+      rest-at row marked (m .minus2 .result) (m .minus2 .ensures) glass (f .first2 .ensures .below) (f .first2 .ensures .member)
 
   fewer-left : unvisited (w .with .result) < unvisited marked
   fewer-left = fewer marked glass (w .with .result) (w .with .ensures) (choice .1 .below) (choice .1 .out)
@@ -359,7 +359,7 @@ pub +free+serve-spec : {M : Type 1} → statement M
     (λ c. ap length (c .before .before .loop .inv .0))
     (serve-stuck t)
     (λ c κs. c .if2 .left)
-    (λ c κs. c .before .first2 .ensures .0)
+    (λ c κs. c .before .first2 .ensures .below)
     (serve-free-requires t)
     (λ c. search needs)
     (λ c. search needs)

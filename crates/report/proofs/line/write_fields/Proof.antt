@@ -10,7 +10,7 @@ use lib.Seq.{take-suc, take-all}
 use denote.Ref.{now}
 use Rattle.job_line.specs.Bytes.{space}
 use Rattle.job_line.specs.WrittenNumber.{writtenNumber, writtenNumbers}
-use Rattle.report.specs.Steps.{Wrote}
+use Rattle.report.specs.Internal.Steps.{WroteAt}
 use Rattle.report.proofs.Wrote.{wrote-none, wrote-then}
 use Rattle.report.proofs.Written.{number-four, numbers-next}
 use Rattle.report.proofs.line.write_fields.Statement.{statement}
@@ -19,7 +19,7 @@ use Rattle.report.proofs.line.write_fields.Tie as tie
 abbrev Inv-loop : tie.InvT-loop
 Inv-loop numbers text₀ at end₀ next₀ text end next =
     (next ≤ length numbers) × (length text ≡ length text₀) × (end ≤ at + 5 * next)
-    × Wrote (writtenNumbers (take next numbers)) at text₀ text end
+    × WroteAt (writtenNumbers (take next numbers)) at text₀ text end
 
 abbrev μ-loop : tie.MeasureT-loop
 μ-loop numbers text₀ at end₀ next₀ text end next = length numbers - next

@@ -8,8 +8,8 @@ use lib.ListN.{length, set, length-set}
 use denote.Ref.{now}
 use Rattle.job_line.specs.Bytes.{space, newline}
 use Rattle.job_line.specs.WrittenNumber.{writtenNumber}
-use Rattle.report.specs.Text.{lineOf}
-use Rattle.report.specs.Steps.{Wrote}
+use Rattle.report.specs.Text.{textLine}
+use Rattle.report.specs.Internal.Steps.{WroteAt}
 use Rattle.report.proofs.Wrote.{wrote-line}
 use Rattle.report.proofs.Written.{number-four, numbers-one}
 use Rattle.report.proofs.line.write_pair.Statement.{statement}
@@ -41,7 +41,7 @@ second-kept c = c .write-field .kept .1 .0 ∙ first-kept (number c)
 line : (c : tie.After-slice-known3) →
     let f = c .before .before in
     let a = start (number f) .args in
-    Wrote (lineOf (writtenNumber (a .a)) (a .b ∷ [])) (a .at) (now (a .text)) (set (f .write-field .last .1 .0)
+    WroteAt (textLine (writtenNumber (a .a)) (a .b ∷ [])) (a .at) (now (a .text)) (set (f .write-field .last .1 .0)
     (f .write-field .result) newline)
     (f .write-field .result + 1)
 line c =

@@ -9,14 +9,14 @@ use native.Mathlib.Omega.{arith}
 use lib.ListN.{length, getD, take, length-set}
 use lib.Seq.{take-suc, take-all}
 use denote.Ref.{now}
-use Rattle.report.specs.Steps.{Wrote}
+use Rattle.report.specs.Internal.Steps.{WroteAt}
 use Rattle.report.proofs.Wrote.{wrote-none, wrote-next}
 use Rattle.report.proofs.line.write_word.Statement.{statement}
 use Rattle.report.proofs.line.write_word.Tie as tie
 
 abbrev Inv-loop : tie.InvT-loop
 Inv-loop word text₀ at next₀ text next =
-    (next ≤ length word) × (length text ≡ length text₀) × Wrote (take next word) at text₀ text (at + next)
+    (next ≤ length word) × (length text ≡ length text₀) × WroteAt (take next word) at text₀ text (at + next)
 
 abbrev μ-loop : tie.MeasureT-loop
 μ-loop word text₀ at next₀ text next = length word - next

@@ -5,7 +5,7 @@ use mathlib.Core.Path.{subst}
 use native.Mathlib.Omega.{arith}
 use denote.Ref.{now}
 use Rattle.job_line.specs.WrittenNumber.{writtenDigits, writtenNumber}
-use Rattle.report.specs.Steps.{Wrote}
+use Rattle.report.specs.Internal.Steps.{WroteAt}
 use Rattle.report.proofs.Written.{few-digits}
 use Rattle.report.proofs.number.write_number.Statement.{statement}
 use Rattle.report.proofs.number.write_number.Tie as tie
@@ -30,5 +30,5 @@ write-number-spec =
     let a = d .before .before .args in
     subst
     (λ (count : ℕ).
-    Wrote (writtenDigits count (a .n)) (a .at) (now (a .text)) (w .write-digits .last .1 .1 .0) (w .write-digits .result))
+    WroteAt (writtenDigits count (a .n)) (a .at) (now (a .text)) (w .write-digits .last .1 .1 .0) (w .write-digits .result))
     (d .digit-count .ensures) (w .write-digits .ensures)))

@@ -7,7 +7,7 @@ use native.Mathlib.Omega.{arith}
 use lib.ListN.{length, getD}
 use denote.Ref.{now}
 use Rattle.report.specs.Text.{pairLine, paneLines}
-use Rattle.report.specs.Steps.{Wrote}
+use Rattle.report.specs.Internal.Steps.{WroteAt}
 use Rattle.report.proofs.Wrote.{wrote-none, wrote-then}
 use Rattle.report.proofs.Written.{panes-long}
 use Rattle.report.proofs.text.write_panes.Statement.{statement}
@@ -15,7 +15,7 @@ use Rattle.report.proofs.text.write_panes.Tie as tie
 
 abbrev Inv-loop : tie.InvT-loop
 Inv-loop ids answers text₀ end₀ next₀ text end next =
-    (next ≤ length answers) × (length text ≡ length text₀) × Wrote (paneLines ids answers next) 0 text₀ text end
+    (next ≤ length answers) × (length text ≡ length text₀) × WroteAt (paneLines ids answers next) 0 text₀ text end
 
 abbrev μ-loop : tie.MeasureT-loop
 μ-loop ids answers text₀ end₀ next₀ text end next = length answers - next

@@ -7,8 +7,9 @@ use native.Mathlib.Omega.{arith}
 use lib.ListN.{length}
 use borrow.Author.Tests.{eq-eqb, ne-eqb}
 use denote.Ref.{now}
-use Rattle.report.specs.Text.{lineOf, pairLine, paneLines, short, placingText}
-use Rattle.report.specs.Steps.{Wrote}
+use Rattle.job_line.specs.Bytes.{bytesOf}
+use Rattle.report.specs.Text.{textLine, pairLine, paneLines, placingText}
+use Rattle.report.specs.Internal.Steps.{WroteAt}
 use Rattle.report.proofs.Wrote.{wrote-then}
 use Rattle.report.proofs.Written.{pair-long, panes-long}
 use Rattle.report.proofs.text.write_placing.Statement.{statement}
@@ -53,7 +54,7 @@ both :
     (c : tie.After-write-pair) →
     let a = start (lines c) .args in
     let n = length (now (a .answers)) in
-    Wrote (paneLines (now (a .ids)) (now (a .answers)) n ++ pairLine (a .placed) n) 0 (now (a .text)) (c .write-pair .last .1 .1 .0)
+    WroteAt (paneLines (now (a .ids)) (now (a .answers)) n ++ pairLine (a .placed) n) 0 (now (a .text)) (c .write-pair .last .1 .1 .0)
     (c .write-pair .result)
 both c =
     let p = lines c in
@@ -82,9 +83,9 @@ some-left c =
     let n = length (now (a .answers)) in
     rw (
       ne-eqb (a .placed) n (e .if1 .left),
-      ← append-assoc (paneLines (now (a .ids)) (now (a .answers)) n) (pairLine (a .placed) n) (lineOf short (now (a .group))),
+      ← append-assoc (paneLines (now (a .ids)) (now (a .answers)) n) (pairLine (a .placed) n) (textLine (bytesOf "short") (now (a .group))),
     )
-    (wrote-then 0 (now (a .text)) (paneLines (now (a .ids)) (now (a .answers)) n ++ pairLine (a .placed) n) (lineOf short (now
+    (wrote-then 0 (now (a .text)) (paneLines (now (a .ids)) (now (a .answers)) n ++ pairLine (a .placed) n) (textLine (bytesOf "short") (now
     (a .group)))
     (p .write-pair .last .1 .1 .0) (h .write-short .last .1 .0) (p .write-pair .result) (h .write-short .result) (omega arith)
     (both p) (h .write-short .ensures))

@@ -6,9 +6,9 @@ use mathlib.Core.Path.{_≡_, _∙_}
 use native.Mathlib.Omega.{arith}
 use lib.ListN.{length, length-set}
 use denote.Ref.{now}
-use Rattle.job_line.specs.Bytes.{space, newline}
+use Rattle.job_line.specs.Bytes.{space, newline, bytesOf}
 use Rattle.job_line.specs.WrittenNumber.{writtenNumber, writtenNumbers}
-use Rattle.report.specs.Text.{refusedWord, refusalText}
+use Rattle.report.specs.Text.{refusalText}
 use Rattle.report.proofs.Wrote.{wrote-line, wrote-then}
 use Rattle.report.proofs.Written.{number-five, numbers-one, numbers-next}
 use Rattle.report.proofs.text.write_refusal.Statement.{statement}
@@ -56,7 +56,7 @@ line c =
     (a .offset)) =
     numbers-next (a .number ∷ []) (a .offset) ∙ rw numbers-one in
     rw fields
-    (wrote-line 0 (now (a .text)) refusedWord ((space ∷ writtenNumber (a .number)) ++ (space ∷ writtenNumber (a .offset)))
+    (wrote-line 0 (now (a .text)) (bytesOf "refused") ((space ∷ writtenNumber (a .number)) ++ (space ∷ writtenNumber (a .offset)))
     (w .write-word .last .1 .0)
     (o .write-field2 .last .1 .0) (w .write-word .result) (o .write-field2 .result) (omega arith) (room o)
     (w .write-word .ensures)

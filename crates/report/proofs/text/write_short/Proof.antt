@@ -7,7 +7,7 @@ use lib.ListN.{length, length-set}
 use denote.Ref.{now}
 use Rattle.job_line.specs.Bytes.{newline}
 use Rattle.job_line.specs.WrittenNumber.{writtenNumbers}
-use Rattle.report.specs.Text.{short}
+use Rattle.job_line.specs.Bytes.{bytesOf}
 use Rattle.report.proofs.Wrote.{wrote-line}
 use Rattle.report.proofs.Written.{numbers-long}
 use Rattle.report.proofs.text.write_short.Statement.{statement}
@@ -47,7 +47,7 @@ line c =
     let w = word f in
     let s = start w in
     let a = s .args in
-    wrote-line (a .at) (now (a .text)) short (writtenNumbers (now (a .group))) (w .write-word .last .1 .0)
+    wrote-line (a .at) (now (a .text)) (bytesOf "short") (writtenNumbers (now (a .group))) (w .write-word .last .1 .0)
     (f .write-fields .last .1 .0) (w .write-word .result) (f .write-fields .result) (omega (arith, s .pre .1)) (room f)
     (w .write-word .ensures) (f .write-fields .ensures)
 

@@ -10,7 +10,7 @@ use lib.Seq.{take-all}
 use denote.Ref.{now}
 use Rattle.basics.specs.Choice.{if_then_else_}
 use Rattle.basics.specs.Lent.{lent}
-use Rattle.row_placing.specs.Steps.{Answered}
+use Rattle.row_placing.specs.Internal.Steps.{Answered}
 use Rattle.row_placing.proofs.Writes.{answered-none, answered-next, answered-le}
 use Rattle.row_placing.proofs.answers.write_answers.Statement.{statement}
 use Rattle.row_placing.proofs.answers.write_answers.Tie as tie

@@ -1,0 +1,2 @@
+-- What holds of every number.
+pub mod Numbered

@@ -1,0 +1,2 @@
+-- Where an offset lies.
+pub mod Place

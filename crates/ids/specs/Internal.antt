@@ -1,0 +1,2 @@
+-- Sets of ids as bits.
+pub mod IdSets

@@ -1,0 +1,12 @@
+-- A set of ids, as bits: the id n is bit n % 64 of word n / 64.
+use Prim.Native.Nat.{ℕ, _/_, _%_}
+use mathlib.Core.Path.{_≡_}
+use mathlib.Core.List.{List}
+use lib.ListN.{length, getD}
+use Rattle.bits.specs.Internal.Bit.{has}
+use Rattle.ids.specs.Ids.{among}
+
+-- A set of the ids of a list, in words enough for every id up to 9999.
+pub record IdSet (seen ids : List ℕ) : Type 0 where
+  pub room : length seen ≡ 157
+  pub members : (id : ℕ) → has (getD seen (id / 64) 0) (id % 64) ≡ among id ids

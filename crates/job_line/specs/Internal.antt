@@ -1,0 +1,2 @@
+-- What reading at a position promises.
+pub mod Steps

@@ -1,0 +1,2 @@
+-- What reading a part promises.
+pub mod Arrays

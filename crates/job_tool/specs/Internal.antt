@@ -1,0 +1,2 @@
+-- What reading a file leaves.
+pub mod Leaves

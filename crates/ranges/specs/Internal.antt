@@ -1,0 +1,2 @@
+-- Counts and tests below a bound.
+pub mod Counts

@@ -1,0 +1,2 @@
+-- What the functions of the crate ask and leave.
+pub mod Steps

@@ -1,0 +1,2 @@
+-- What the lookup asks.
+pub mod Steps
