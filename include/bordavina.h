@@ -2,7 +2,10 @@
  *
  * Every call takes the bytes of a job file, asks nothing of them, keeps no state and may be made by several threads at once.
  * The calls allocate nothing, and read and write no memory but what they are lent. A pointer may be null where its length
- * is 0. Lent lists do not overlap one another or the file. The library is for x86-64. */
+ * is 0. Lent lists do not overlap one another or the file. The library is for x86-64.
+ *
+ * A thread with a stack of 128 KB can make every call. On threads with small stacks, bordavina_check returned on 40 KB,
+ * bordavina_verdict and bordavina_place on 56 KB and bordavina_report on 72 KB, and on 4 KB less they did not. */
 #ifndef BORDAVINA_H
 #define BORDAVINA_H
 
@@ -36,7 +39,7 @@ enum {
     BORDAVINA_LINE_FORM = 4,      /* the line is not of its part's form, or lacks its newline */
     BORDAVINA_NUMBER_VALUE = 5,   /* a number is not among its allowed values */
     BORDAVINA_REPEATED_ID = 6,    /* the id is already on an earlier line of the part */
-    BORDAVINA_TOO_LONG = 7,       /* a four-edge pane's longer side is over 3 times the shorter */
+    BORDAVINA_TOO_LONG = 7,       /* a pane with four edges is more than 3 times as long as wide */
     BORDAVINA_TOO_MANY_LINES = 8, /* the 65th glass line or the 257th pane line begins */
 
     /* bordavina_place; offset 0. */
@@ -80,10 +83,10 @@ bordavina_verdict_result bordavina_verdict(const uint8_t *file, size_t file_leng
 
 /* Gives the panes of a file sheets of its rack.
  *
- * The first `wanted` entries of `answers`, one for each pane in file order, then hold a glass id for a placed pane and 0 for
- * another; later entries are untouched. Every given glass passes for its pane, no glass is given more often than its stock,
- * and a pane with 0 has no passing glass with a sheet to spare. `placed` counts the entries that are not 0. It is `wanted`
- * exactly when some way exists to serve every pane.
+ * The first `wanted` entries of `answers` are then those of the file's panes, in its order: the id of the pane's glass, or 0
+ * where it has none. Later entries are untouched. Every given glass passes for its pane, and no glass is given more often
+ * than its stock. Where a pane has 0, all sheets of the glasses that pass for it are given to others. `placed` counts the
+ * entries that are not 0. It is `wanted` exactly when some way exists to serve every pane.
  *
  * If it is, `group` is 0 and `short_group` is untouched. If it is not, the first `group` entries of `short_group` are ids of
  * panes, each once, that show why: the stocks of all glasses that pass for at least one of these panes, each glass counted
