@@ -24,11 +24,9 @@ use Rattle.job_pane.specs.PaneLine.{blankPane}
 use Rattle.job_pane.specs.Internal.Values.{PaneValues}
 use Rattle.job_pane.specs.declared.Pane.{Pane}
 use Rattle.job_file.specs.File.{Outcome, accepted, refused, outcomeOf}
-use Rattle.job_file.specs.Internal.Job.{jobOf, glassesOf, panesOf, numbersOf}
+use Rattle.job_file.specs.Internal.Job.{jobOf, glassesOf, panesOf, numbersOf, jobIn, ReadJob}
 use Rattle.job_file.specs.Entries.{glassAt, paneAt, glassIdsOf, paneIdsOf}
 use Rattle.job_file.specs.CheckAnswer.{checkedSays, checkAnswer}
-use Rattle.job_file.specs.Internal.Job.{jobIn}
-use Rattle.job_file.specs.Internal.Job.{ReadJob}
 use Rattle.job_file.specs.declared.job.Job.{Job}
 use Rattle.job_file.specs.declared.job.JobNumbers.{JobNumbers}
 use Rattle.job_file.specs.declared.Checked.the-variants.{Accepted, Refused}

@@ -3,8 +3,7 @@ use crate::Checked;
 use job_glass::Glass;
 use job_pane::Pane;
 ghost use mathlib.Core.Path.{_≡_};
-ghost use Rattle.job_file.specs.Internal.Job.{glassesOf, panesOf, numbersOf};
-ghost use Rattle.job_file.specs.Internal.Job.{ReadJob};
+ghost use Rattle.job_file.specs.Internal.Job.{glassesOf, panesOf, numbersOf, ReadJob};
 
 // A job file that was read: what its check says, and its glasses and panes in file order at the front of their arrays. Every
 // other entry is of zeros. A refused file has no glass and no pane.

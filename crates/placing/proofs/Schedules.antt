@@ -12,10 +12,9 @@ use Rattle.job_glass.specs.GlassLine.{blankGlass}
 use Rattle.job_glass.specs.declared.Glass.{Glass}
 use Rattle.job_pane.specs.PaneLine.{blankPane}
 use Rattle.job_pane.specs.declared.Pane.{Pane}
-use Rattle.job_file.specs.Internal.Job.{glassesOf, panesOf, numbersOf}
+use Rattle.job_file.specs.Internal.Job.{glassesOf, panesOf, numbersOf, ReadJob}
 use Rattle.job_file.specs.Entries.{glassIdsOf, paneIdsOf, stocksOf}
 use Rattle.job_file.specs.Rules.{Rules}
-use Rattle.job_file.specs.Internal.Job.{ReadJob}
 use Rattle.job_file.specs.declared.job.Job.{Job}
 use Rattle.job_file.specs.declared.job.JobNumbers.{JobNumbers}
 use Rattle.job_file.proofs.Laws.{glass-values, glass-ids, pane-ids, few-panes, as-many-panes, pane-ids-lent}

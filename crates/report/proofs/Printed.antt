@@ -18,9 +18,8 @@ use Rattle.causes.specs.declared.Cause.{Cause}
 use Rattle.job_glass.specs.GlassLine.{blankGlass}
 use Rattle.job_pane.specs.PaneLine.{blankPane}
 use Rattle.job_file.specs.File.{Outcome, accepted, refused}
-use Rattle.job_file.specs.Internal.Job.{glassesOf, panesOf, numbersOf}
+use Rattle.job_file.specs.Internal.Job.{glassesOf, panesOf, numbersOf, ReadJob}
 use Rattle.job_file.specs.Entries.{stocksOf}
-use Rattle.job_file.specs.Internal.Job.{ReadJob}
 use Rattle.job_file.specs.declared.job.Job.{Job}
 use Rattle.job_file.specs.declared.job.JobNumbers.{JobNumbers}
 use Rattle.job_file.proofs.Laws.{glass-values, pane-values, few-panes, as-many-panes, pane-ids-lent}

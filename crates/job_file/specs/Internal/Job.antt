@@ -37,7 +37,7 @@ glassesOf job = take (job .«glass_count») (job .glasses)
 abbrev pub panesOf : Job → List Pane
 panesOf job = take (job .«pane_count») (job .panes)
 
--- Those numbers at the front of arrays, with 0 behind them, and how many there are.
+-- The ids and the stocks at the front of arrays, with 0 behind them, and how many there are.
 abbrev pub numbersOf : List Glass → List Pane → JobNumbers
 numbersOf glasses panes = record {
   «glass_count» = length glasses;

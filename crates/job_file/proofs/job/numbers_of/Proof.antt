@@ -5,11 +5,10 @@ use Prim.Native.Nat.{_-_, _≤_}
 use native.Mathlib.Omega.{arith}
 use mathlib.Core.Path.{_≡_, refl, _∙_}
 use lib.ListN.{take, replicate}
-use Rattle.basics.specs.Internal.Arrays.{written}
+use Rattle.basics.specs.Internal.Arrays.{written, padded}
 use Rattle.basics.proofs.Lent.{written-map, written-padded}
 use Rattle.job_glass.specs.GlassLine.{blankGlass}
 use Rattle.job_pane.specs.PaneLine.{blankPane}
-use Rattle.basics.specs.Internal.Arrays.{padded}
 use Rattle.job_file.specs.Internal.Job.{glassesOf, panesOf}
 use Rattle.job_file.specs.Entries.{glassIdsOf, paneIdsOf, stocksOf}
 use Rattle.job_file.proofs.Jobs.{glass-count, pane-count, few-glasses, few-panes, glasses-long, panes-long}

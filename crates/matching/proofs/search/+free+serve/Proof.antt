@@ -11,9 +11,8 @@ use mathlib.Core.List.{List}
 use lib.ListN.{length, getD, length-set}
 use Rattle.basics.proofs.Tests.{differ}
 use Rattle.glass_set.specs.Internal.Member.{has, unvisited}
-use Rattle.matching.specs.Internal.Steps.{Grown}
+use Rattle.matching.specs.Internal.Steps.{Grown, Unseen, NotFreed}
 use Rattle.glass_set.proofs.Members.{unvisited-le}
-use Rattle.matching.specs.Internal.Steps.{Unseen, NotFreed}
 use Rattle.matching.proofs.Growth.{unseen-back, grown-none}
 use Rattle.matching.proofs.Serving.{serve-spare, serve-moved, serve-on}
 use Rattle.matching.proofs.Freeing.{free-moved, Passed, free-other, free-on}

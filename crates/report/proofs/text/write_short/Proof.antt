@@ -5,9 +5,8 @@ use mathlib.Core.Path.{_≡_, _∙_}
 use native.Mathlib.Omega.{arith}
 use lib.ListN.{length, length-set}
 use denote.Ref.{now}
-use Rattle.job_line.specs.Bytes.{newline}
+use Rattle.job_line.specs.Bytes.{newline, bytesOf}
 use Rattle.job_line.specs.WrittenNumber.{writtenNumbers}
-use Rattle.job_line.specs.Bytes.{bytesOf}
 use Rattle.report.proofs.Wrote.{wrote-line}
 use Rattle.report.proofs.Written.{numbers-long}
 use Rattle.report.proofs.text.write_short.Statement.{statement}
