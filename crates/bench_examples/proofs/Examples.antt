@@ -1,6 +1,6 @@
 -- The bench examples hold.
---     glazing-h, glazing-j    what every placing of (h) and of (j) is
---     examples                (a) to (j)
+--     glazing-c, glazing-h, glazing-j    what every placing of the second file of (c), of (h) and of (j) is
+--     examples                           (a) to (j)
 use Prim.Native.Nat.{ℕ}
 use mathlib.Core.Path.{_≡_, refl, sym, subst, _∙_}
 use mathlib.Core.List.{List, [], _∷_}
@@ -8,7 +8,7 @@ use native.Mathlib.Omega.{arith}
 use lib.ListN.{length, take}
 use Rattle.job_file.specs.File.{outcomeOf}
 use Rattle.bench_examples.specs.Files.{jobH, jobJ}
-use Rattle.bench_examples.proofs.Files.{glassesJ, panesJ, not-too-long, too-long, nothing-wanted, thirteen-bytes, job-read}
+use Rattle.bench_examples.proofs.Files.{glassesJ, panesJ, three-times, ribbon, nothing-wanted, thirteen-bytes, job-read}
 use Rattle.causes.specs.Answer.{gives}
 use Rattle.span_table.specs.Spans.{spans}
 use Rattle.row_placing.specs.Schedule.{Schedule}
@@ -17,7 +17,14 @@ use Rattle.placing.specs.FileSchedule.{scheduleOf}
 use Rattle.placing.specs.Promise.{Call, PlacedCall}
 use Rattle.placing.proofs.Laws.{nonzero-le, counted-of}
 use Rattle.bench_examples.specs.Examples.{counts, ExampleJ, Examples}
+use Rattle.bench_examples.proofs.JobC as JobC
 use Rattle.bench_examples.proofs.JobJ.{scheduleJ, full-placing, no-other}
+
+pub glazing-c :
+    (ids group : List ℕ) (placed : ℕ) → Glazing JobC.scheduleC ids group placed → (placed ≡ 1) × (ids ≡ 10 ∷ [])
+glazing-c ids group placed g =
+    let all = g .all-placeable JobC.full-placing in
+    (all, JobC.no-other ids (g .placing) (sym (g .placed-is) ∙ all))
 
 pub glazing-h :
     (ids group : List ℕ) (placed : ℕ) → Glazing (scheduleOf [] [] []) ids group placed → (placed ≡ 0) × (group ≡ [])
@@ -60,7 +67,16 @@ unfolding spans
 examples = record {
   a = record { at-29 = refl; at-30 = refl; awning = refl };
   b = record { at-2999 = refl; at-3000 = refl };
-  c = record { by-2000 = refl; by-2001 = refl; by-3000 = refl; accepts-3000 = not-too-long; by-3001 = too-long };
+  c = record {
+    by-2000 = refl;
+    by-2001 = refl;
+    by-3000 = refl;
+    by-3001 = refl;
+    accepts-3000 = three-times;
+    accepts-3001 = ribbon;
+    with-8 = JobC.glass-8-fails;
+    with-10 = JobC.glass-10-passes;
+  };
   d = record { at-5 = refl; at-11 = refl };
   e = record { maximum = refl; minimum = refl };
   f = record { maximum = refl; minimum = refl };

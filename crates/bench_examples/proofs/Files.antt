@@ -1,5 +1,5 @@
 -- Document 01, "Bench examples": those that the file alone settles, each by computing what the definition says of its bytes.
---     too-long, not-too-long       (c) a four-edge pane 1000 by 3001: number 7; by 3000: accepted
+--     three-times, ribbon          (c) a four-edge pane 1000 by 3000, and by 3001, is accepted
 --     nothing-wanted               (h) `T 00000 00000` alone is accepted, with no glass and no pane
 --     thirteen-bytes               (i) 13 bytes: number 1, whatever they are
 --     job-answer, job-read         (j) the job of "The program `canopy`": two glasses and two panes, and which
@@ -7,7 +7,7 @@ use Prim.Native.Nat.{ℕ}
 use mathlib.Core.Path.{_≡_, refl, ap}
 use mathlib.Core.List.{List, [], _∷_}
 use lib.ListN.{length}
-use Rattle.causes.specs.declared.Cause.the-variants.{FileLength, TooLong}
+use Rattle.causes.specs.declared.Cause.the-variants.{FileLength}
 use Rattle.job_glass.specs.declared.Glass.{Glass}
 use Rattle.job_pane.specs.declared.Pane.{Pane}
 use Rattle.job_line.specs.Number.{digits, number}
@@ -17,7 +17,7 @@ use Rattle.job_part.specs.Part.{judgedEntry, judged, lines, partLines}
 use Rattle.causes.specs.Answer.{gives}
 use Rattle.job_file.specs.File.{trailer, Outcome, accepted, refused, partsOutcome, outcomeOf}
 use Rattle.job_file.specs.CheckAnswer.{fileCounts, checkAnswer}
-use Rattle.bench_examples.specs.Files.{pane3000, longPane, pane3001, jobH, jobJ}
+use Rattle.bench_examples.specs.Files.{pane3000, pane3001, paneC, glass8, glass10, jobH, jobJ}
 
 -- To compute an outcome, every definition of the reading is opened.
 outcome : List ℕ → Outcome
@@ -25,15 +25,13 @@ unfolding digits number numbers ended line among judgedEntry judged lines partLi
 outcome file = outcomeOf file
 
 -- (c)
-pub not-too-long :
-    outcomeOf pane3000
-    ≡ accepted [] (longPane ∷ [])
+pub three-times : outcomeOf pane3000 ≡ accepted [] (paneC 3000 ∷ [])
 unfolding outcome
-not-too-long = refl
+three-times = refl
 
-pub too-long : outcomeOf pane3001 ≡ refused TooLong 0
+pub ribbon : outcomeOf pane3001 ≡ accepted (glass8 ∷ glass10 ∷ []) (paneC 3001 ∷ [])
 unfolding outcome
-too-long = refl
+ribbon = refl
 
 -- (h)
 pub nothing-wanted : outcomeOf jobH ≡ accepted [] []

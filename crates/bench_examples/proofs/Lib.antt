@@ -1,7 +1,8 @@
 -- What the reader says of the files.
 pub mod Files
--- The job of (j): which answers keep the promise.
+-- The job of (j), and the second file of (c): which answers keep the promise.
 pub mod JobJ
+pub mod JobC
 -- The bench examples, all of them.
 pub mod Examples
 -- What `canopy` prints of them.

@@ -1,24 +1,27 @@
--- Document 01, "Bench examples", (a) to (j). (h) and (j) are of every call of `place` that keeps its promise.
+-- Document 01, "Bench examples", (a) to (j), with (c) as document 02, 2026-01, has it. (h) and (j) are of every call of `place` that
+-- keeps its promise.
 use Prim.Native.Nat.{ℕ, _≤_}
 use mathlib.Core.Path.{_≡_}
 use mathlib.Core.Bool.{true, false}
 use mathlib.Core.List.{List, [], _∷_}
 use lib.ListN.{length, take}
 use Rattle.causes.specs.Answer.{gives}
-use Rattle.causes.specs.declared.Cause.the-variants.{FileLength, TooLong}
+use Rattle.causes.specs.declared.Cause.the-variants.{FileLength}
 use Rattle.dead_loads.specs.DeadLoads.{maximumAt, minimumAt}
 use Rattle.job_glass.specs.declared.Glass.{Glass}
 use Rattle.job_pane.specs.declared.Pane.{Pane}
 use Rattle.job_file.specs.File.{accepted, refused, outcomeOf}
 use Rattle.span_table.specs.Spans.{maxSpan}
 use Rattle.point_load.specs.LiveLoad.{liveLoad}
-use Rattle.point_load.specs.Support.{AR=2, AR=3, columnOf, spanOf}
+use Rattle.point_load.specs.Support.{AR=2, AR=3, twoEdge, columnOf, spanOf}
 use Rattle.uniform_load.specs.GlassLoads.{maxDeadLoad, minDeadLoad}
 use Rattle.uniform_load.specs.UniformLoad.{designPressure, uniformLoadFails}
 use Rattle.clauses.specs.Kind.{kindFails}
+use Rattle.clauses.specs.Verdict.{verdictOf}
+use Rattle.clauses.specs.declared.judging.Verdict.the-variants.{Passes, Fails}
 use Rattle.row_placing.specs.declared.PlaceCounts.{PlaceCounts}
 use Rattle.placing.specs.Promise.{Call, Promised}
-use Rattle.bench_examples.specs.Files.{pane3000, longPane, pane3001, jobH, jobJ}
+use Rattle.bench_examples.specs.Files.{pane3000, pane3001, paneC, glass8, glass10, jobH, jobJ}
 
 -- A pane and a glass of ordinary values, but for those that an example names.
 abbrev pub somePane : (edges top w h down : ℕ) → Pane
@@ -57,13 +60,17 @@ pub record ExampleB (kind4 : Glass) : Type 0 where
   pub at-2999 : kindFails (somePane 4 2999 900 1500 60) kind4 ≡ false
   pub at-3000 : kindFails (somePane 4 3000 900 1500 60) kind4 ≡ true
 
--- (c) The columns of three panes, a file with the third, and a file whose pane is too long for its width.
+-- (c) The columns of four panes, and a file with each of the last two. By the two-edge column 8 mm spans 800, so the last, a ribbon,
+-- fails with it; by AR=3 (1600) it would pass. It passes with 10 mm (1600), by "four".
 pub record ExampleC : Type 0 where
   pub by-2000 : columnOf (somePane 4 3000 1000 2000 60) ≡ AR=2
   pub by-2001 : columnOf (somePane 4 3000 1000 2001 60) ≡ AR=3
   pub by-3000 : columnOf (somePane 4 3000 1000 3000 60) ≡ AR=3
-  pub accepts-3000 : outcomeOf pane3000 ≡ accepted [] (longPane ∷ [])
-  pub by-3001 : outcomeOf pane3001 ≡ refused TooLong 0
+  pub by-3001 : columnOf (somePane 4 3000 1000 3001 60) ≡ twoEdge
+  pub accepts-3000 : outcomeOf pane3000 ≡ accepted [] (paneC 3000 ∷ [])
+  pub accepts-3001 : outcomeOf pane3001 ≡ accepted (glass8 ∷ glass10 ∷ []) (paneC 3001 ∷ [])
+  pub with-8 : verdictOf (paneC 3001) glass8 ≡ Fails 3
+  pub with-10 : verdictOf (paneC 3001) glass10 ≡ Passes
 
 -- (d) The span at 5 tenths of a kN is shorter than that at 11.
 pub record ExampleD : Type 0 where

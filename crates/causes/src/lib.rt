@@ -1,8 +1,9 @@
-// Why a call is refused: document 01, "What each cause gives". The numbers of refusals stand here and nowhere else in the code.
+// Why a call is refused: document 01, "What each cause gives", less number 7, which document 02, 2026-01, takes away. The numbers of
+// refusals stand here and nowhere else in the code.
 ghost use mathlib.Core.Path.{_≡_};
 ghost use Rattle.causes.specs.Cause.{numberOf};
 
-// A cause of document 01's table, in its order. Requests add theirs at the end, with the numbers 12 to 19.
+// A cause of document 01's table, in its order. Requests add theirs at the end, with the numbers 12 to 19; none takes 7 again.
 pub enum Cause {
     // of the file
     FileLength,
@@ -11,7 +12,6 @@ pub enum Cause {
     LineForm,
     NumberValue,
     RepeatedId,
-    TooLong,
     TooManyLines,
     // of what comes with it: a lent list that is too short, an id that the file does not have
     ListTooShort,
@@ -30,7 +30,6 @@ pub fn number_of(cause: Cause) -> u32
         Cause::LineForm => 4,
         Cause::NumberValue => 5,
         Cause::RepeatedId => 6,
-        Cause::TooLong => 7,
         Cause::TooManyLines => 8,
         Cause::ListTooShort => 9,
         Cause::NoPane => 10,

@@ -1,7 +1,7 @@
 -- The laws of the verdict hold. The verdict given decides what each of the four tests was; a larger constant only raises K,
--- and no other test reads it; no test reads the stock.
+-- and no other test reads it; no test reads the stock; and the column of a pane that is no ribbon is document 01's.
 use Prim.Native.Nat.{ℕ, zero, suc, _≤_, _<_}
-use mathlib.Core.Path.{_≡_, refl}
+use mathlib.Core.Path.{_≡_, refl, ap}
 use mathlib.Core.Bool.{Bool, true, false}
 use native.Mathlib.Nat.{mul-le-mul, le-trans}
 use native.Mathlib.Omega.{arith}
@@ -11,12 +11,15 @@ use Rattle.basics.specs.Choice.{if_then_else_}
 use Rattle.basics.proofs.Tests.{clash}
 use Rattle.job_glass.specs.declared.Glass.{Glass}
 use Rattle.job_pane.specs.declared.Pane.{Pane}
+use Rattle.job_pane.specs.Sides.{inProportion}
 use Rattle.point_load.specs.PointLoad.{pointLoadFails}
+use Rattle.point_load.specs.RibbonLaws.{columnBefore}
+use Rattle.point_load.proofs.RibbonLaws.{ribbon-laws}
 use Rattle.uniform_load.specs.UniformLoad.{spanConstant, uniformLoadFails}
 use Rattle.clauses.specs.Kind.{kindFails}
 use Rattle.clauses.specs.Size.{sizeFails}
 use Rattle.clauses.specs.Verdict.{verdictOf}
-use Rattle.clauses.specs.Laws.{clauseFails, FirstToFail, withConstants, withStock, VerdictLaws}
+use Rattle.clauses.specs.Laws.{clauseFails, FirstToFail, withConstants, withStock, verdictIn, VerdictLaws}
 use Rattle.clauses.specs.declared.judging.Verdict.{Verdict}
 use Rattle.clauses.specs.declared.judging.Verdict.the-variants.{Passes, Fails}
 use Rattle.clauses.proofs.Verdicts.{passes}
@@ -138,5 +141,9 @@ module _ (p : Pane) (g : Glass) where
   unfolding verdictOf
   stock s = refl
 
+  no-ribbon : inProportion p ≡ true → verdictOf p g ≡ verdictIn (columnBefore p) p g
+  unfolding verdictOf
+  no-ribbon e = ap (λ column. verdictIn column p g) (ribbon-laws p .column-kept e)
+
   pub verdict-laws : VerdictLaws p g
-  verdict-laws = record { first = first; none = none; constants = constants; stock = stock }
+  verdict-laws = record { first = first; none = none; constants = constants; stock = stock; no-ribbon = no-ribbon }

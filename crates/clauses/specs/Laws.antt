@@ -2,15 +2,19 @@
 use Prim.Native.Nat.{ℕ, _≤_, _<_}
 use mathlib.Core.Path.{_≡_}
 use mathlib.Core.Bool.{Bool, true, false}
-use lib.Dec.{eqb}
+use lib.Dec.{ltb, eqb}
 use Rattle.basics.specs.Choice.{if_then_else_}
 use Rattle.job_glass.specs.declared.Glass.{Glass}
 use Rattle.job_pane.specs.declared.Pane.{Pane}
-use Rattle.point_load.specs.PointLoad.{pointLoadFails}
+use Rattle.job_pane.specs.Sides.{inProportion}
+use Rattle.point_load.specs.Support.{spanOf}
+use Rattle.point_load.specs.PointLoad.{entryIn, pointLoadFails}
+use Rattle.point_load.specs.RibbonLaws.{columnBefore}
 use Rattle.uniform_load.specs.UniformLoad.{uniformLoadFails}
 use Rattle.clauses.specs.Kind.{kindFails}
 use Rattle.clauses.specs.Size.{sizeFails}
 use Rattle.clauses.specs.Verdict.{verdictOf}
+use Rattle.clauses.specs.declared.judging.Verdict.{Verdict}
 use Rattle.clauses.specs.declared.judging.Verdict.the-variants.{Passes, Fails}
 
 -- A clause, by its number; any number but 1, 2 and 3 reads as that of clause 4.
@@ -53,6 +57,15 @@ withStock stock g = record {
   stock = stock;
 }
 
+-- The verdict, if clause 3 read its entry in this column.
+abbrev pub verdictIn : (column : ℕ) → Pane → Glass → Verdict
+verdictIn column p g =
+    if kindFails p g then Fails 1
+    else if sizeFails p g then Fails 2
+    else if ltb (entryIn column p g) (spanOf p) then Fails 3
+    else if uniformLoadFails p g then Fails 4
+    else Passes
+
 pub record VerdictLaws (p : Pane) (g : Glass) : Type 0 where
   -- a verdict that fails names the first clause that does, and one that passes says that none does
   pub first : (n : ℕ) → verdictOf p g ≡ Fails n → FirstToFail n p g
@@ -62,3 +75,5 @@ pub record VerdictLaws (p : Pane) (g : Glass) : Type 0 where
       (two four : ℕ) → g .two ≤ two → g .four ≤ four → verdictOf p g ≡ Passes → verdictOf p (withConstants two four g) ≡ Passes
   -- the stock has no say
   pub stock : (stock : ℕ) → verdictOf p (withStock stock g) ≡ verdictOf p g
+  -- document 02, 2026-01: a pane that is no ribbon has the verdict by document 01's column
+  pub no-ribbon : inProportion p ≡ true → verdictOf p g ≡ verdictIn (columnBefore p) p g

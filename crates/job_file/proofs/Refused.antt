@@ -1,5 +1,6 @@
--- The offset of a refusal is within the file: a line stands before its part's end.
---     refused-within    of every refused file
+-- What holds of every refused file. The offset of a refusal is within the file: a line stands before its part's end.
+--     refused-within        the offset is at most 65535
+--     not-refused-with-7    the number is not 7, which is that of no cause
 use Prim.Native.Nat.{ℕ, zero, suc, _-_, _≤_}
 use mathlib.Core.Path.{_≡_, refl, subst}
 use mathlib.Core.Bool.{Bool, true, false, _&&_, _||_}
@@ -9,14 +10,19 @@ use lib.Dec.{leb, ltb}
 use lib.ListN.{length, drop}
 use borrow.Author.Tests.{leb-true, ltb-false}
 use Rattle.basics.specs.Choice.{if_then_else_}
+use Rattle.basics.proofs.Tests.{clash}
+use Rattle.causes.specs.Answer.{refuses}
 use Rattle.causes.specs.declared.Cause.{Cause}
 use Rattle.causes.specs.declared.Cause.the-variants.{FileLength, NoTrailer, PartOffsets}
+use Rattle.causes.proofs.Numbers.{no-number-7}
 use Rattle.job_part.specs.Part.{Form, Judged, taken, faulty, judged, Lines, whole, stopped, lines, partLines}
 use Rattle.job_glass.specs.GlassLine.{glassForm}
 use Rattle.job_glass.specs.declared.Glass.{Glass}
 use Rattle.job_pane.specs.PaneLine.{paneForm}
 use Rattle.job_pane.specs.declared.Pane.{Pane}
 use Rattle.job_file.specs.File.{Trailer, offsets, noTrailer, trailer, Outcome, accepted, refused, part, partsOutcome, outcomeOf}
+use Rattle.job_file.specs.CheckAnswer.{checkAnswer}
+use Rattle.job_file.specs.Laws.{NotRefusedWith7}
 
 -- What is shown of a part and of a file.
 abbrev PartWithin : {A : Type 0} → ℕ → Lines A → Type 0
@@ -112,3 +118,10 @@ within file = sized (ltb (length file) 14) (ltb 65535 (length file)) refl
 
 pub refused-within : (file : List ℕ) (cause : Cause) (offset : ℕ) → outcomeOf file ≡ refused cause offset → offset ≤ 65535
 refused-within file cause offset is = subst (FileWithin 65535) is (within file)
+
+pub not-refused-with-7 : NotRefusedWith7
+not-refused-with-7 file offset = go (outcomeOf file)
+  where
+    go : (o : Outcome) → checkAnswer o ≡ refuses 7 offset → ⊥
+    go (accepted glasses panes) e = clash (cc)
+    go (refused cause at) e = no-number-7 cause (cc)

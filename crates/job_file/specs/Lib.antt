@@ -4,4 +4,6 @@ pub mod Entries
 pub mod CheckAnswer
 -- What the lists of an accepted file keep.
 pub mod Rules
+-- What no file is refused with.
+pub mod Laws
 pub mod Internal

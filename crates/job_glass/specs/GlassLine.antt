@@ -1,6 +1,6 @@
 -- Document 01, "The job file": the line of a glass, `G id kind thick w h two four stock`.
 use Prim.Native.Nat.{ℕ}
-use mathlib.Core.Bool.{Bool, false, _&&_, _||_}
+use mathlib.Core.Bool.{Bool, _&&_, _||_}
 use mathlib.Core.List.{List}
 use lib.Dec.{leb, eqb}
 use lib.ListN.{getD}
@@ -34,7 +34,7 @@ allowedGlass g =
     && between 1 99999 (g .four)
     && leb (g .stock) 999
 
--- A glass line has the letter `G` and 8 numbers, and there are at most 64. Cause 7 is of panes alone.
+-- A glass line has the letter `G` and 8 numbers, and there are at most 64.
 abbrev pub glassForm : Form Glass
 glassForm = record {
   letter = letterG;
@@ -42,7 +42,6 @@ glassForm = record {
   entry = glassOf;
   id = λ g. g .id;
   allowed = allowedGlass;
-  tooLong = λ g. false;
   most = 64;
 }
 

@@ -39,7 +39,7 @@ glass-writer = record {
   count-is = λ g. refl;
   entry-of = λ g. refl;
   of-entry = λ ns e. numbers-from 8 0 ns e;
-  small = λ g h fair.
+  small = λ g h.
       let v = allowed-glass g h in
       let thick : g .thick ≤ 12 =
       ⊎-elim (λ e. omega arith) (⊎-elim (λ e. omega arith) (⊎-elim (λ e. omega arith) (λ e. omega arith)))
@@ -54,7 +54,7 @@ pane-writer = record {
   count-is = λ p. refl;
   entry-of = λ p. refl;
   of-entry = λ ns e. numbers-from 9 0 ns e;
-  small = λ p h fair.
+  small = λ p h.
       let v = allowed-pane p h in
       let edges : p .edges ≤ 4 = ⊎-elim (λ e. omega arith) (λ e. omega arith) (v .edges-is) in
       omega (arith, le→leb);

@@ -7,3 +7,4 @@ pub mod Forms
 pub mod Trailer
 pub mod Offsets
 pub mod Grammar
+pub mod ReadAsBefore

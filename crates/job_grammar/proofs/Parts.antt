@@ -5,7 +5,6 @@
 --     part-read        what is read as entries is what is written for them
 use Prim.Native.Nat.{ℕ, zero, suc, _≤_, _<_}
 use mathlib.Core.Path.{_≡_, refl, sym, _∙_, ap}
-use mathlib.Core.Bool.{not}
 use mathlib.Core.List.{List, [], _∷_, _++_, append-assoc, append-nil, map, map-append}
 use native.Mathlib.Omega.{arith}
 use native.Mathlib.Nat.{le-of-suc-le-suc}
@@ -25,7 +24,7 @@ pub record Writer {A : Type 0} (form : Form A) (numbersOf : A → List ℕ) : Ty
   pub count-is : (x : A) → length (numbersOf x) ≡ form .count
   pub entry-of : (x : A) → form .entry (numbersOf x) ≡ x
   pub of-entry : (ns : List ℕ) → length ns ≡ form .count → numbersOf (form .entry ns) ≡ ns
-  pub small : (x : A) → T (form .allowed x) → T (not (form .tooLong x)) → Small (numbersOf x)
+  pub small : (x : A) → T (form .allowed x) → Small (numbersOf x)
 
 -- The line that is written for an entry.
 abbrev pub writtenEntry : {A : Type 0} → Form A → (A → List ℕ) → A → List ℕ
@@ -46,36 +45,33 @@ module _ {A : Type 0} (form : Form A) (numbersOf : A → List ℕ) (writer : Wri
   written-taken :
       (earlier : List A) (x : A) (xs : List A) (rest : List ℕ) →
       T (form .allowed x) →
-      T (not (form .tooLong x)) →
       Distinct (map (form .id) (earlier ++ (x ∷ xs))) →
       Taken form earlier (writtenEntry form numbersOf x ++ rest) x rest
-  written-taken earlier x xs rest h fair apart = record {
+  written-taken earlier x xs rest h apart = record {
     numbers = numbersOf x;
-    read = rw (← writer .count-is x) (written-line (form .letter) (numbersOf x) rest (writer .small x h fair));
+    read = rw (← writer .count-is x) (written-line (form .letter) (numbersOf x) rest (writer .small x h));
     says = writer .entry-of x;
     allowed = h;
     new =
         distinct-new (map (form .id) earlier) (form .id x) (map (form .id) xs)
         (rw (map-append (form .id) earlier (x ∷ xs)) at apart);
-    in-proportion = fair;
   }
 
   written-lines :
       (left : ℕ) (earlier xs : List A) →
       length xs ≤ left →
       Every (form .allowed) xs →
-      Every (λ x. not (form .tooLong x)) xs →
       Distinct (map (form .id) (earlier ++ xs)) →
       lines form end left earlier (writtenPart (writtenEntry form numbersOf) xs) ≡ whole (earlier ++ xs)
   unfolding lines writtenPart writtenLine Every
-  written-lines left earlier [] l h fair apart = rw append-nil (lines-end form end left earlier .0)
-  written-lines zero earlier (x ∷ xs) l h fair apart = absurd (omega arith)
-  written-lines (suc left) earlier (x ∷ xs) l h fair apart =
+  written-lines left earlier [] l h apart = rw append-nil (lines-end form end left earlier .0)
+  written-lines zero earlier (x ∷ xs) l h apart = absurd (omega arith)
+  written-lines (suc left) earlier (x ∷ xs) l h apart =
       let rest = writtenPart (writtenEntry form numbersOf) xs in
       let together : (earlier ++ (x ∷ [])) ++ xs ≡ earlier ++ (x ∷ xs) = append-assoc earlier (x ∷ []) xs in
-      let first = written-taken earlier x xs rest (h .0) (fair .0) apart in
+      let first = written-taken earlier x xs rest (h .0) apart in
       rw (lines, taken-is form earlier (writtenEntry form numbersOf x ++ rest) x rest first)
-      (written-lines left (earlier ++ (x ∷ [])) xs (le-of-suc-le-suc l) (h .1) (fair .1) (rw together apart)
+      (written-lines left (earlier ++ (x ∷ [])) xs (le-of-suc-le-suc l) (h .1) (rw together apart)
       ∙ ap (λ l. whole l) together)
 
   pub written-part :
@@ -83,7 +79,7 @@ module _ {A : Type 0} (form : Form A) (numbersOf : A → List ℕ) (writer : Wri
       PartRules form xs →
       partLines form end (writtenPart (writtenEntry form numbersOf) xs) ≡ whole xs
   unfolding partLines
-  written-part xs r = written-lines (form .most) [] xs (r .at-most) (r .allowed) (r .in-proportion) (r .distinct)
+  written-part xs r = written-lines (form .most) [] xs (r .at-most) (r .allowed) (r .distinct)
 
   pub part-read :
       (bytes : List ℕ) (xs : List A) →

@@ -1,8 +1,8 @@
 -- Document 01, "The job file": the line of a pane, `P id edges angle awning top w h down up`.
-use Prim.Native.Nat.{ℕ, _*_, min, max}
+use Prim.Native.Nat.{ℕ}
 use mathlib.Core.Bool.{Bool, _&&_, _||_}
 use mathlib.Core.List.{List}
-use lib.Dec.{leb, ltb, eqb}
+use lib.Dec.{leb, eqb}
 use lib.ListN.{getD}
 use Rattle.job_line.specs.Bytes.{letterP}
 use Rattle.job_part.specs.Part.{Form, between}
@@ -35,10 +35,6 @@ allowedPane p =
     && leb (p .down) 1000
     && leb (p .up) 1000
 
--- Cause 7, of a pane with four edges: too long for its width.
-abbrev pub tooLongPane : Pane → Bool
-tooLongPane p = eqb (p .edges) 4 && ltb (3 * min (p .w) (p .h)) (max (p .w) (p .h))
-
 -- A pane line has the letter `P` and 9 numbers, and there are at most 256.
 abbrev pub paneForm : Form Pane
 paneForm = record {
@@ -47,7 +43,6 @@ paneForm = record {
   entry = paneOf;
   id = λ p. p .id;
   allowed = allowedPane;
-  tooLong = tooLongPane;
   most = 256;
 }
 

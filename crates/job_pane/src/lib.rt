@@ -1,12 +1,9 @@
 // The pane part of a job file: document 01, "The job file".
 mod panes;
-mod sides;
 
 use job_part::PartEnd;
 pub use panes::NO_PANE;
 pub use panes::read_panes;
-pub use sides::longer;
-pub use sides::shorter;
 
 // A pane of the roof: a line `P id edges angle awning top w h down up`.
 pub struct Pane {

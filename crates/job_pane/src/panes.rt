@@ -1,8 +1,6 @@
 // The pane part: specs/PaneLine.antt, and specs/Part.antt of job_part.
 use crate::Pane;
 use crate::PanePart;
-use crate::sides::longer;
-use crate::sides::shorter;
 use causes::Cause;
 use ids::is_seen;
 use ids::mark;
@@ -13,7 +11,7 @@ ghost use mathlib.Core.Path.{_≡_};
 ghost use mathlib.Core.List.{List};
 ghost use Prim.Native.Nat.{ℕ, _+_, _≤_};
 ghost use lib.ListN.{length, take, drop};
-ghost use Rattle.job_pane.specs.PaneLine.{paneOf, allowedPane, tooLongPane, paneForm, blankPane};
+ghost use Rattle.job_pane.specs.PaneLine.{paneOf, allowedPane, paneForm, blankPane};
 ghost use Rattle.job_part.specs.Part.{judged, judgedEntry};
 ghost use Rattle.job_pane.specs.Internal.Steps.{PaneRead};
 ghost use Rattle.job_part.specs.Internal.Arrays.{PartRead};
@@ -87,7 +85,7 @@ fn read_pane(part: &[u8], at: usize, seen: &[u64; 157]) -> PaneLine
     }
 }
 
-// A pane line that ends at `next`, judged by the causes 5, 6 and 7.
+// A pane line that ends at `next`, judged by the causes 5 and 6.
 fn judge_pane(pane: Pane, next: usize, seen: &[u64; 157]) -> PaneLine
     ensures { λ r. ⌜ ((ids : List ℕ) → IdSet (now (seen .entry)) ids → (bytes : List ℕ) → next ≤ length bytes →
         PaneRead bytes (judgedEntry paneForm ids pane (drop next bytes)) r) ⌝ }
@@ -95,8 +93,6 @@ fn judge_pane(pane: Pane, next: usize, seen: &[u64; 157]) -> PaneLine
     if is_allowed(pane) {
         if is_seen(seen, pane.id) {
             PaneLine::FaultyPane(Cause::RepeatedId)
-        } else if is_too_long(pane) {
-            PaneLine::FaultyPane(Cause::TooLong)
         } else {
             PaneLine::TakenPane(pane, next)
         }
@@ -134,13 +130,4 @@ fn is_allowed(p: Pane) -> bool
         & ((1 <= p.h) & (p.h <= 5000))
         & (p.down <= 1000)
         & (p.up <= 1000)
-}
-
-// Whether a pane with four edges is too long for its width (cause 7).
-fn is_too_long(p: Pane) -> bool
-    ensures { λ r. ⌜ r ≡ tooLongPane p ⌝ }
-{
-    let limit = 3 * (shorter(p.w, p.h) as u64);
-    let length = longer(p.w, p.h) as u64;
-    (p.edges == 4) & (limit < length)
 }

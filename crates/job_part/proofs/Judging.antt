@@ -1,12 +1,12 @@
 -- A line's causes, by the tests that led to them.
---     entry-value, entry-repeated, entry-long   causes 5, 6 and 7
---     entry-taken                               none of them
---     line-form, line-entry                     cause 4, or the line's entry
+--     entry-value, entry-repeated   causes 5 and 6
+--     entry-taken                   neither of them
+--     line-form, line-entry         cause 4, or the line's entry
 use Prim.Native.Nat.{ℕ}
 use mathlib.Core.Path.{_≡_}
 use mathlib.Core.Bool.{true, false}
 use mathlib.Core.List.{List}
-use Rattle.causes.specs.declared.Cause.the-variants.{LineForm, NumberValue, RepeatedId, TooLong}
+use Rattle.causes.specs.declared.Cause.the-variants.{LineForm, NumberValue, RepeatedId}
 use Rattle.job_line.specs.Bytes.{found, nothing}
 use Rattle.job_line.specs.Line.{line}
 use Rattle.ids.specs.Ids.{among}
@@ -21,17 +21,9 @@ module _ {A : Type 0} (form : Form A) (ids : List ℕ) (x : A) (rest : List ℕ)
   unfolding judgedEntry
   entry-repeated good seen = rw (good, seen)
 
-  pub entry-long :
-      form .allowed x ≡ true → among (form .id x) ids ≡ false → form .tooLong x ≡ true →
-      judgedEntry form ids x rest ≡ faulty TooLong
+  pub entry-taken : form .allowed x ≡ true → among (form .id x) ids ≡ false → judgedEntry form ids x rest ≡ taken x rest
   unfolding judgedEntry
-  entry-long good new long = rw (good, new, long)
-
-  pub entry-taken :
-      form .allowed x ≡ true → among (form .id x) ids ≡ false → form .tooLong x ≡ false →
-      judgedEntry form ids x rest ≡ taken x rest
-  unfolding judgedEntry
-  entry-taken good new short = rw (good, new, short)
+  entry-taken good new = rw (good, new)
 
 module _ {A : Type 0} (form : Form A) (ids bytes : List ℕ) where
   pub line-form : line (form .letter) (form .count) bytes ≡ nothing → judged form ids bytes ≡ faulty LineForm

@@ -1,6 +1,6 @@
 -- What every taken line keeps, a whole part keeps: `lines` takes one line after the other, so a claim that each taken line
 -- hands on holds where no byte is left.
---     Taken        what a line that is taken was: the numbers read, and that no cause 5, 6 or 7 met it
+--     Taken        what a line that is taken was: the numbers read, and that neither cause 5 nor 6 met it
 --     taken-was    a line is taken only so
 --     taken-is     such a line is taken
 --     keep         a claim about the lines left, the entries so far and the bytes left, handed on by each taken line
@@ -11,7 +11,7 @@ use mathlib.Core.List.{List, [], _∷_, _++_, map}
 use lib.Dec.{T}
 use lib.ListN.{length}
 use Rattle.basics.proofs.Tests.{clash}
-use Rattle.causes.specs.declared.Cause.the-variants.{LineForm, NumberValue, RepeatedId, TooLong}
+use Rattle.causes.specs.declared.Cause.the-variants.{LineForm, NumberValue, RepeatedId}
 use Rattle.basics.specs.Choice.{if_then_else_}
 use Rattle.job_line.specs.Bytes.{Found, found, nothing}
 use Rattle.job_line.specs.Line.{line}
@@ -24,18 +24,16 @@ pub record Taken {A : Type 0} (form : Form A) (earlier : List A) (bytes : List �
   pub says : form .entry numbers ≡ x
   pub allowed : T (form .allowed x)
   pub new : T (not (among (form .id x) (map (form .id) earlier)))
-  pub in-proportion : T (not (form .tooLong x))
 
 module _ {A : Type 0} (form : Form A) where
-  -- The three tests of an entry: an entry that is taken passed them, and one that passes them is taken.
+  -- The two tests of an entry: an entry that is taken passed them, and one that passes them is taken.
   gates :
-      (a m l : Bool) (x y : A) (rest rest′ : List ℕ) →
-      (if not a then faulty NumberValue else if m then faulty RepeatedId else if l then faulty TooLong else taken x rest) ≡ taken y rest′ →
-      T a × T (not m) × T (not l) × (x ≡ y) × (rest ≡ rest′)
-  gates true false false x y rest rest′ e = (tt, tt, tt, cc, cc)
-  gates false m l x y rest rest′ e = clash (cc)
-  gates true true l x y rest rest′ e = clash (cc)
-  gates true false true x y rest rest′ e = clash (cc)
+      (a m : Bool) (x y : A) (rest rest′ : List ℕ) →
+      (if not a then faulty NumberValue else if m then faulty RepeatedId else taken x rest) ≡ taken y rest′ →
+      T a × T (not m) × (x ≡ y) × (rest ≡ rest′)
+  gates true false x y rest rest′ e = (tt, tt, cc, cc)
+  gates false m x y rest rest′ e = clash (cc)
+  gates true true x y rest rest′ e = clash (cc)
 
   pub taken-was :
       (earlier : List A) (bytes : List ℕ) (x : A) (rest : List ℕ) →
@@ -52,27 +50,24 @@ module _ {A : Type 0} (form : Form A) where
           ] ≡ taken x rest → Taken form earlier bytes x rest
       go (found ns after) q e =
           let y : A = form .entry ns in
-          let g = gates (form .allowed y) (among (form .id y) (map (form .id) earlier)) (form .tooLong y) y x after rest e in
+          let g = gates (form .allowed y) (among (form .id y) (map (form .id) earlier)) y x after rest e in
           record {
             numbers = ns;
             read = cc;
-            says = g .3;
-            allowed = rw (g .3) at (g .0);
-            new = rw (g .3) at (g .1);
-            in-proportion = rw (g .3) at (g .2);
+            says = g .2;
+            allowed = rw (g .2) at (g .0);
+            new = rw (g .2) at (g .1);
           }
       go nothing q e = clash (cc)
 
   passes :
-      (a m l : Bool) (x : A) (rest : List ℕ) →
+      (a m : Bool) (x : A) (rest : List ℕ) →
       T a →
       T (not m) →
-      T (not l) →
-      (if not a then faulty NumberValue else if m then faulty RepeatedId else if l then faulty TooLong else taken x rest) ≡ taken x rest
-  passes true false false x rest h k p = refl
-  passes false m l x rest h k p = absurd h
-  passes true true l x rest h k p = absurd k
-  passes true false true x rest h k p = absurd p
+      (if not a then faulty NumberValue else if m then faulty RepeatedId else taken x rest) ≡ taken x rest
+  passes true false x rest h k = refl
+  passes false m x rest h k = absurd h
+  passes true true x rest h k = absurd k
 
   pub taken-is :
       (earlier : List A) (bytes : List ℕ) (x : A) (rest : List ℕ) →
@@ -81,10 +76,7 @@ module _ {A : Type 0} (form : Form A) where
   unfolding judged judgedEntry
   taken-is earlier bytes x rest t =
       rw (judged, t .read, t .says)
-      (passes (form .allowed x) (among (form .id x) (map (form .id) earlier)) (form .tooLong x) x rest
-      (t .allowed)
-      (t .new)
-      (t .in-proportion))
+      (passes (form .allowed x) (among (form .id x) (map (form .id) earlier)) x rest (t .allowed) (t .new))
 
   module _
       (P : ℕ → List A → List ℕ → Type 0)

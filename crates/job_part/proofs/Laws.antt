@@ -3,7 +3,6 @@
 --     ids-at        no two of them have one id
 use Prim.Native.Nat.{ℕ, suc, _+_, _≤_, _<_}
 use mathlib.Core.Path.{_≡_, sym, _∙_}
-use mathlib.Core.Bool.{not}
 use mathlib.Core.List.{List, [], _∷_, _++_, map, map-append}
 use native.Mathlib.Omega.{arith}
 use lib.ListN.{length, getD, length-append, List·getD-map, length-map}
@@ -20,20 +19,18 @@ module _ {A : Type 0} (form : Form A) where
     at-most : length xs + left ≤ form .most
     allowed : Every (form .allowed) xs
     distinct : Distinct (map (form .id) xs)
-    in-proportion : Every (λ x. not (form .tooLong x)) xs
 
   pub part-rules :
       (end : ℕ) (bytes : List ℕ) (xs : List A) → partLines form end bytes ≡ whole xs → PartRules form xs
   unfolding partLines Every Distinct
   part-rules end bytes xs e =
       let last = keep form (λ left xs bytes. SoFar left xs) step end (form .most) [] bytes xs e
-      (record { at-most = omega arith; allowed = tt; distinct = tt; in-proportion = tt }) in
+      (record { at-most = omega arith; allowed = tt; distinct = tt }) in
       let kept : SoFar (last .0) xs = last .1 in
       record {
         at-most = omega (arith, kept .at-most);
         allowed = kept .allowed;
         distinct = kept .distinct;
-        in-proportion = kept .in-proportion;
       }
     where
       step :
@@ -45,7 +42,6 @@ module _ {A : Type 0} (form : Form A) where
         distinct =
             rw (map-append (form .id) xs (x ∷ []))
             (distinct-snoc (map (form .id) xs) (form .id x) (h .distinct) (t .new));
-        in-proportion = every-snoc (λ x. not (form .tooLong x)) xs x (h .in-proportion) (t .in-proportion);
       }
 
   pub ids-at :

@@ -1,5 +1,5 @@
--- Document 01, "The job file" and "What each cause gives", rows 4 to 8: a part and its lines, which are judged one after the other.
--- The glass part and the pane part differ in what a `Form` has, and in nothing else.
+-- Document 01, "The job file" and "What each cause gives", rows 4, 5, 6 and 8 (row 7 went with document 02, 2026-01): a part and its lines,
+-- which are judged one after the other. The glass part and the pane part differ in what a `Form` has, and in nothing else.
 use Prim.Native.Nat.{ℕ, zero, suc, _-_}
 use mathlib.Core.Bool.{Bool, true, false, not, _&&_}
 use mathlib.Core.List.{List, [], _∷_, _++_, map}
@@ -7,7 +7,7 @@ use lib.Dec.{leb}
 use lib.ListN.{length}
 use Rattle.causes.specs.declared.Cause.{Cause}
 use Rattle.ids.specs.Ids.{among}
-use Rattle.causes.specs.declared.Cause.the-variants.{LineForm, NumberValue, RepeatedId, TooLong, TooManyLines}
+use Rattle.causes.specs.declared.Cause.the-variants.{LineForm, NumberValue, RepeatedId, TooManyLines}
 use Rattle.basics.specs.Choice.{if_then_else_}
 use Rattle.job_line.specs.Bytes.{found, nothing}
 use Rattle.job_line.specs.Line.{line}
@@ -22,8 +22,6 @@ pub record Form (A : Type 0) : Type 0 where
   pub id : A → ℕ
   -- each number is among its allowed values
   pub allowed : A → Bool
-  -- cause 7
-  pub tooLong : A → Bool
   -- how many lines the part may have
   pub most : ℕ
 
@@ -35,12 +33,11 @@ pub data Judged (A : Type 0) : Type 0 where
   taken : A → List ℕ → Judged A
   faulty : Cause → Judged A
 
--- A line of the right form: causes 5, 6 and 7, in this order. `ids` are those of the earlier lines, and `rest` the bytes after it.
+-- A line of the right form: cause 5, and then 6. `ids` are those of the earlier lines, and `rest` the bytes after it.
 unfoldable pub judgedEntry : {A : Type 0} (form : Form A) (ids : List ℕ) (x : A) (rest : List ℕ) → Judged A
 judgedEntry form ids x rest =
     if not (form .allowed x) then faulty NumberValue
     else if among (form .id x) ids then faulty RepeatedId
-    else if form .tooLong x then faulty TooLong
     else taken x rest
 
 -- The line at the front of some bytes: cause 4, and then the others.

@@ -1,6 +1,6 @@
 -- The rules of document 01, "The job file", that the entries of a part keep that is read whole.
 use Prim.Native.Nat.{_≤_}
-use mathlib.Core.Bool.{Bool, not}
+use mathlib.Core.Bool.{Bool}
 use mathlib.Core.List.{List, [], _∷_, map}
 use lib.Dec.{T}
 use lib.ListN.{length}
@@ -12,9 +12,8 @@ unfoldable pub Every : {A : Type 0} → (A → Bool) → List A → Type 0
 Every test [] = Unit
 Every test (x ∷ xs) = T (test x) × Every test xs
 
--- What a part's lines keep: no more of them than allowed, allowed values, distinct ids, and no pane that is too long for its width.
+-- What a part's lines keep: no more of them than allowed, allowed values and distinct ids.
 pub record PartRules {A : Type 0} (form : Form A) (xs : List A) : Type 0 where
   pub at-most : length xs ≤ form .most
   pub allowed : Every (form .allowed) xs
   pub distinct : Distinct (map (form .id) xs)
-  pub in-proportion : Every (λ x. not (form .tooLong x)) xs

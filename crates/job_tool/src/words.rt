@@ -52,9 +52,6 @@ pub fn say_cause(cause: Cause) {
         Cause::RepeatedId => say(
             b"the id is already on an earlier line of this part; give the line an id of its own",
         ),
-        Cause::TooLong => say(
-            b"a pane with four edges is more than 3 times as long as it is wide; correct the sides or divide the pane",
-        ),
         Cause::TooManyLines => say(
             b"the part has more than 64 glass lines or 256 pane lines; divide the job into several files",
         ),

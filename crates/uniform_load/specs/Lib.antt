@@ -2,4 +2,6 @@
 pub mod GlassLoads
 pub mod Wind
 pub mod UniformLoad
+-- What follows for panes with four edges.
+pub mod FourEdges
 pub mod Internal

@@ -1,6 +1,6 @@
 -- `glasses::judge_glass` meets its contract: at each return the tests that led there say which cause it is, or none.
 use borrow.Author.Needs.{needs}
-use mathlib.Core.Path.{refl, sym, subst⁻¹, _∙_}
+use mathlib.Core.Path.{sym, subst⁻¹, _∙_}
 use Rattle.job_glass.specs.GlassLine.{glassForm}
 use lib.Dec.{T}
 use Rattle.job_part.proofs.Judging.{entry-value, entry-repeated, entry-taken}
@@ -24,8 +24,7 @@ taken : tie.Need-returns-2
 taken c ids set bytes within = (
   entry-taken glassForm _ _ _
       (sym (c .before .before .before .is-allowed .ensures) ∙ c .before .before .if1 .taken)
-      (sym (c .before .is-seen .ensures ids set) ∙ c .if2 .left)
-      refl,
+      (sym (c .before .is-seen .ensures ids set) ∙ c .if2 .left),
   within,
 )
 

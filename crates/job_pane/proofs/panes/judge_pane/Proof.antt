@@ -3,7 +3,7 @@ use borrow.Author.Needs.{needs}
 use mathlib.Core.Path.{sym, subst⁻¹, _∙_}
 use Rattle.job_pane.specs.PaneLine.{paneForm}
 use lib.Dec.{T}
-use Rattle.job_part.proofs.Judging.{entry-value, entry-repeated, entry-long, entry-taken}
+use Rattle.job_part.proofs.Judging.{entry-value, entry-repeated, entry-taken}
 use Rattle.job_pane.proofs.Values.{allowed-id}
 use Rattle.job_pane.proofs.panes.judge_pane.Statement.{statement}
 use Rattle.job_pane.proofs.panes.judge_pane.Tie as tie
@@ -19,26 +19,16 @@ repeated c ids set bytes within =
     (sym (c .before .before .before .is-allowed .ensures) ∙ c .before .before .if1 .taken)
     (sym (c .before .is-seen .ensures ids set) ∙ c .if2 .taken)
 
-long : tie.Need-returns-2
-long c ids set bytes within =
-    entry-long paneForm _ _ _
-    (sym (c .before .before .before .before .before .is-allowed .ensures) ∙ c .before .before .before .before .if1 .taken)
-    (sym (c .before .before .before .is-seen .ensures ids set) ∙ c .before .before .if2 .left)
-    (sym (c .before .is-too-long .ensures) ∙ c .if3 .taken)
-
-taken : tie.Need-returns-3
+taken : tie.Need-returns-2
 taken c ids set bytes within = (
   entry-taken paneForm _ _ _
-      (sym (c .before .before .before .before .before .is-allowed .ensures) ∙ c .before .before .before .before .if1 .taken)
-      (sym (c .before .before .before .is-seen .ensures ids set) ∙ c .before .before .if2 .left)
-      (sym (c .before .is-too-long .ensures) ∙ c .if3 .left),
+      (sym (c .before .before .before .is-allowed .ensures) ∙ c .before .before .if1 .taken)
+      (sym (c .before .is-seen .ensures ids set) ∙ c .if2 .left),
   within,
 )
 
-value : tie.Need-returns-4
+value : tie.Need-returns-3
 value c ids set bytes within = entry-value paneForm _ _ _ (sym (c .before .is-allowed .ensures) ∙ c .if1 .left)
 
 pub judge-pane-spec : {M : Type 1} → statement M
-judge-pane-spec =
-    tie.close
-    (tie.spec (λ c κs. search needs) in-range (λ c κs. search needs) repeated long taken value)
+judge-pane-spec = tie.close (tie.spec (λ c κs. search needs) in-range repeated taken value)
