@@ -1,7 +1,8 @@
 """Writes the vectors of check_job: the files in data/, their names in args and their answers in stdout.
 
-Run `python3 generate.py`. Each answer is stated here from document 01: the cause by hand, the offset as the length of what
-stands before the faulty line. Nothing is written where reader.py, an independent reader, answers otherwise.
+Run `python3 generate.py`. Each answer is stated here from document 01 and document 02, 2026-01: the cause by hand, the offset
+as the length of what stands before the faulty line. Nothing is written where reader.py, an independent reader, answers
+otherwise. Ribbons are panes with four edges that are more than three times as long as wide, along w or along h.
 """
 import collections
 import pathlib
@@ -25,6 +26,11 @@ def glass(id=500, kind=1, thick=10, w=2400, h=3600, two=17976, four=20130, stock
 
 def pane(id=600, edges=4, angle=30, awning=0, top=3000, w=900, h=1500, down=60, up=95):
     return line("P", id, edges, angle, awning, top, w, h, down, up)
+
+
+def ribbon(id):
+    """A ribbon four times as long as wide, of any id up to 1250."""
+    return pane(id, w=id, h=4 * id)
 
 
 def many(make, count):
@@ -148,6 +154,7 @@ BETWEEN = [
 def limits():
     for part, numbers in LIMITS.items():
         for place, (number, lowest, below, highest, above) in enumerate(numbers):
+            # with two edges; sides() and order() have such panes with four
             sides = {"edges": 2} if part == "pane" and number in "wh" else {}
             name = f"{part}-{number}"
             good(part, f"{name}-lowest", MAKE[part](**{number: lowest}, **sides))
@@ -309,19 +316,33 @@ def trailers():
     refused("trailer-twice", 4, body, body + whole + whole)
 
 
-# sides of a pane with so many edges, and the cause
+# sides of a pane with so many edges that is no ribbon
 SIDES = [
-    (1000, 3000, 4, 0), (3000, 1000, 4, 0), (1000, 3001, 4, 7), (3001, 1000, 4, 7), (1000, 3001, 2, 0), (3001, 1000, 2, 0),
-    (1, 1, 4, 0), (1, 3, 4, 0), (3, 1, 4, 0), (1, 4, 4, 7), (4, 1, 4, 7), (1, 5000, 4, 7), (5000, 1, 4, 7), (1, 5000, 2, 0),
-    (5000, 1, 2, 0), (1667, 5000, 4, 0), (1666, 5000, 4, 7), (5000, 1667, 4, 0), (5000, 1666, 4, 7), (5000, 5000, 4, 0),
-    (2, 7, 4, 7), (2, 6, 4, 0), (333, 1000, 4, 7), (334, 1000, 4, 0),
+    (1000, 3000, 4), (3000, 1000, 4), (1000, 3001, 2), (3001, 1000, 2), (1, 1, 4), (1, 3, 4), (3, 1, 4), (1, 5000, 2),
+    (5000, 1, 2), (1667, 5000, 4), (5000, 1667, 4), (5000, 5000, 4), (2, 6, 4), (334, 1000, 4),
 ]
+# sides of a ribbon
+RIBBONS = [
+    (1000, 3001), (3001, 1000), (1, 4), (4, 1), (1, 5000), (5000, 1), (1666, 5000), (5000, 1666), (2, 7), (333, 1000),
+    (1000, 333), (400, 2000), (2000, 400), (1, 1500), (5000, 1500), (900, 1), (900, 5000),
+]
+# the longer sides of example (c)
+LENGTHS = (2000, 2001, 3000, 3001)
 
 
 def sides():
-    for w, h, edges, cause in SIDES:
-        judged("pane", f"pane-{w}-by-{h}-{spelled(edges)}-edges", cause, pane(w=w, h=h, edges=edges))
-    bad("pane", "first-pane-too-long", 7, pane(w=500, h=1501), b"")
+    """A pane may be of any sides, with four edges as with two."""
+    for w, h, edges in SIDES:
+        good("pane", f"pane-{w}-by-{h}-{spelled(edges)}-edges", pane(w=w, h=h, edges=edges))
+    for w, h in RIBBONS:
+        panes = pane(701) + pane(702) + pane(w=w, h=h) + pane(703)
+        accepted(f"pane-{w}-by-{h}-four-edges", 1, 4, job(glass(501), panes))
+    accepted("sizes-of-example-c", 1, 4, job(glass(), b"".join(pane(length, w=1000, h=length) for length in LENGTHS)))
+    accepted("sizes-of-example-c-turned", 1, 4, job(glass(), b"".join(pane(length, w=length, h=1000) for length in LENGTHS)))
+    accepted("first-pane-a-ribbon", 1, 2, job(glass(501), pane(w=500, h=1501) + pane(703)))
+    accepted("one-pane-a-ribbon", 1, 1, job(glass(), pane(w=1501, h=500)))
+    accepted("ribbons-beside-long-panes-of-two-edges", 1, 4, job(
+        glass(), pane(1, w=400, h=2000) + pane(2, 2, w=400, h=2000) + pane(3, w=2000, h=400) + pane(4, 2, w=2000, h=400)))
     accepted("glass-sheet-of-any-sides", 1, 1, job(glass(w=1, h=9999), pane()))
 
 
@@ -357,9 +378,11 @@ def counts():
             refused(f"{part}-line-{most + 1}{name}", 8, NOTES + lines, file)
         bad(part, f"{part}-line-{most}-malformed", 4, b"?\n" + make(9998), many(make, most - 1))
         bad(part, f"{part}-line-{most}-out-of-range", 5, make(10000) + make(9998), many(make, most - 1))
-    bad("pane", "pane-line-257-too-long", 8, pane(w=1, h=9), many(pane, 256))
+    bad("pane", "pane-line-257-a-ribbon", 8, pane(w=1, h=9), many(pane, 256))
+    refused("pane-line-257-behind-ribbons", 8, NOTES + many(ribbon, 256), job(b"", many(ribbon, 257)))
     accepted("most-glasses", 64, 1, job(many(glass, 64), pane()))
     accepted("most-panes", 1, 256, job(glass(), many(pane, 256)))
+    accepted("most-panes-all-ribbons", 1, 256, job(glass(), many(ribbon, 256)))
     accepted("most-glasses-and-panes", 64, 256, job(many(glass, 64), many(pane, 256)))
     accepted("one-glass-and-one-pane-under-the-most", 63, 255, job(many(glass, 63), many(pane, 255)))
     accepted("notes-with-more-glasses-than-the-most", 1, 1, job(glass(), pane(), many(glass, 80)))
@@ -372,27 +395,35 @@ def counts():
 
 
 def order():
+    """The first cause of a line, and the first line with one. A ribbon is no cause."""
     lines = glass(501) + glass(502)
     bad("glass", "glass-form-and-value", 4, glass(kind=9, stock="01"))
     bad("pane", "pane-form-and-value", 4, pane(edges=3, up="01"))
     bad("glass", "glass-form-and-id-repeated", 4, glass(701)[:-1] + b" \n")
     bad("pane", "pane-form-and-id-repeated", 4, pane(701)[:-1] + b" \n")
-    bad("pane", "pane-form-and-too-long", 4, pane(w=1, h=100, up="+5"))
+    bad("pane", "ribbon-form", 4, pane(w=1, h=100, up="+5"))
     bad("glass", "glass-value-and-id-repeated", 5, glass(701, kind=5))
     bad("pane", "pane-value-and-id-repeated", 5, pane(701, angle=75))
     bad("pane", "pane-last-value-and-id-repeated", 5, pane(701, up=1001))
-    bad("pane", "pane-value-and-too-long", 5, pane(w=1, h=5001))
-    bad("pane", "pane-other-value-and-too-long", 5, pane(w=1, h=500, awning=2))
+    bad("pane", "ribbon-h-one-above", 5, pane(w=1, h=5001))
+    bad("pane", "ribbon-w-one-above", 5, pane(w=5001, h=1500))
+    bad("pane", "ribbon-value", 5, pane(w=1, h=500, awning=2))
     bad("pane", "pane-zero-width-four-edges", 5, pane(w=0))
-    bad("pane", "pane-value-id-repeated-and-too-long", 5, pane(701, w=1, h=500, top="99999", down=1001))
-    bad("pane", "pane-id-repeated-and-too-long", 6, pane(702, w=500, h=1501))
+    bad("pane", "pane-zero-height-four-edges", 5, pane(h=0))
+    bad("pane", "ribbon-value-and-id-repeated", 5, pane(701, w=1, h=500, top="99999", down=1001))
+    bad("pane", "ribbon-id-repeated", 6, pane(702, w=500, h=1501))
     bad("glass", "glass-value-on-one-line-form-on-next", 5, glass(id=0) + b"G\n")
-    bad("pane", "pane-too-long-on-one-line-form-on-next", 7, pane(w=1, h=4) + b"P\n")
+    behind_ribbon = pane(701) + pane(702) + pane(w=1, h=4)
+    bad("pane", "ribbon-on-one-line-form-on-next", 4, b"P\n", behind_ribbon)
+    bad("pane", "ribbon-on-one-line-value-on-next", 5, pane(601, angle=80), behind_ribbon)
+    bad("pane", "ribbon-on-one-line-its-id-on-next", 6, pane(), behind_ribbon)
+    bad("pane", "ribbon-twice", 6, pane(w=1, h=4), behind_ribbon)
+    refused("ribbon-without-newline", 4, NOTES + lines + pane(601), job(lines, pane(601) + pane(w=1, h=4)[:-1]))
     bad("pane", "pane-id-repeated-on-one-line-value-on-next", 6, pane(701) + pane(angle=80))
     bad("pane", "pane-form-on-one-line-too-many-later", 4, b"P\n", many(pane, 3))
     for name, cause, fault in ("form", 4, b"G\n"), ("value", 5, glass(kind=0)), ("id-repeated", 6, glass(502)):
-        for other, line in ("form", b"P\n"), ("value", pane(edges=0)), ("too-long", pane(w=1, h=4)):
-            refused(f"glass-{name}-before-pane-{other}", cause, NOTES + lines, job(lines + fault, line))
+        for other, line in ("pane-form", b"P\n"), ("pane-value", pane(edges=0)), ("ribbon", pane(w=1, h=4)):
+            refused(f"glass-{name}-before-{other}", cause, NOTES + lines, job(lines + fault, line))
     refused("glass-too-many-before-pane-form", 8, NOTES + many(glass, 64), job(many(glass, 65), b"P\n"))
     refused("glass-last-line-before-too-many-panes", 5, NOTES + lines, job(lines + glass(stock=1000), many(pane, 257)))
     body = NOTES + b"G\n" + b"P\n"
@@ -403,7 +434,7 @@ def order():
 
 
 def notes():
-    faulty = b"G 0 0 0\n" + glass() * 2 + pane(w=1, h=9)
+    faulty = b"G 0 0 0\n" + glass() * 2 + pane(w=0)
     for name, text in {
         "none": b"", "of-every-byte": bytes(range(256)), "of-every-byte-falling": bytes(reversed(range(256))),
         "like-lines": glass() + pane(), "like-faulty-lines": faulty, "like-a-trailer": trailer(0, 0),

@@ -1,4 +1,5 @@
-"""A second reader of the job file, written from document 01 alone: the answers of check_job are compared with its own."""
+"""A second reader of the job file, written from document 01 and document 02, 2026-01, alone: the answers of check_job are
+compared with its own."""
 import re
 
 TRAILER = re.compile(rb"T ([0-9]{5}) ([0-9]{5})\n")
@@ -17,12 +18,7 @@ GLASS_VALUES = (to(1, 9999), to(1, 4), (6, 8, 10, 12), to(1, 9999), to(1, 9999),
 PANE_VALUES = (to(1, 9999), (2, 4), to(0, 74), to(0, 1), to(0, 99999), to(1, 5000), to(1, 5000), to(0, 1000), to(0, 1000))
 
 
-def too_long(pane):
-    edges, w, h = pane[1], pane[5], pane[6]
-    return edges == 4 and max(w, h) > 3 * min(w, h)
-
-
-def line_cause(line, form, values, ids, is_pane):
+def line_cause(line, form, values, ids):
     """The cause against a line behind lines with these ids, or 0; adds its id."""
     found = form.fullmatch(line)
     if not found:
@@ -32,19 +28,17 @@ def line_cause(line, form, values, ids, is_pane):
         return 5
     if numbers[0] in ids:
         return 6
-    if is_pane and too_long(numbers):
-        return 7
     ids.add(numbers[0])
     return 0
 
 
-def part_answer(file, start, end, form, values, most, is_pane):
+def part_answer(file, start, end, form, values, most):
     """(0, how many lines) of a good part, or (cause, offset)."""
     ids = set()
     while start < end:
         newline = file.find(b"\n", start, end)
         behind = end if newline < 0 else newline + 1
-        cause = 8 if len(ids) == most else line_cause(file[start:behind], form, values, ids, is_pane)
+        cause = 8 if len(ids) == most else line_cause(file[start:behind], form, values, ids)
         if cause:
             return cause, start
         start = behind
@@ -62,10 +56,10 @@ def check(file):
     glass, pane = int(found[1]), int(found[2])
     if not glass <= pane <= end:
         return f"refused 3 {end}"
-    cause, glasses = part_answer(file, glass, pane, GLASS_LINE, GLASS_VALUES, 64, False)
+    cause, glasses = part_answer(file, glass, pane, GLASS_LINE, GLASS_VALUES, 64)
     if cause:
         return f"refused {cause} {glasses}"
-    cause, panes = part_answer(file, pane, end, PANE_LINE, PANE_VALUES, 256, True)
+    cause, panes = part_answer(file, pane, end, PANE_LINE, PANE_VALUES, 256)
     if cause:
         return f"refused {cause} {panes}"
     return f"accepted {glasses} {panes}"

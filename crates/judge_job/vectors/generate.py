@@ -1,8 +1,9 @@
 """Writes the vectors of judge_job: the job files in data/, the questions in args and their answers in stdout.
 
-Run `python3 generate.py`. Each answer is stated here from document 01, "The four clauses": a pane and a glass are made so that
-the clause named is the first against them, or none is. Nothing is written where clauses.py, a second reading of the paper,
-says otherwise, or where reader.py, the second reader of check_job's vectors, reads a file otherwise.
+Run `python3 generate.py`. Each answer is stated here from document 01, "The four clauses", and document 02, 2026-01: a pane and
+a glass are made so that the clause named is the first against them, or none is. Nothing is written where clauses.py, a second
+reading of the papers, says otherwise, or where reader.py, the second reader of check_job's vectors, reads a file otherwise.
+Ribbons are panes with four edges that are more than three times as long as wide, along w or along h.
 """
 import itertools
 import math
@@ -21,6 +22,8 @@ THICK = (6, 8, 10, 12)
 LIVE_LOADS = ("0.5", "1.1", "1.8")
 COLUMNS = ("AR=1", "AR=2", "AR=3", "two")
 MOST = 99999
+# the widest ribbon: 3 times 1667 is over 5000, the longest side of a pane
+WIDEST = 1666
 
 # Tables 6.2 to 6.5 by column. The twelve spans are those of 0.5, 1.1 and 1.8 kN, each for 6, 8, 10 and 12 mm.
 SPANS = {
@@ -191,7 +194,8 @@ def rows():
 
 
 def shapes(column, span):
-    """Panes of this span that read this column: two at its ends, one with w shorter and one with h shorter."""
+    """Panes of this span that read this column and are no ribbons: two at its ends, one with w shorter and one with h
+    shorter."""
     if column == "AR=1":
         return [dict(w=span, h=span)]
     if column == "AR=2":
@@ -213,7 +217,8 @@ def spans():
 
 
 def columns():
-    """Of each row, the sides at which one column ends and the next begins, where their spans differ."""
+    """Of each row, the sides at which one column ends and the next begins, where their spans differ. The sides at which ribbons
+    begin are those of ribbon_columns."""
     for kind, load, thick, (first, second, third, two) in rows():
         group, sheet, loaded = f"spans-{kind}-{thick}", glass(kind, thick), LOADED[load]
         if first > second:
@@ -320,18 +325,27 @@ def pressed(edges, span, pressure, is_up):
     return pane(edges, angle, w=span, h=span, **wind), thick
 
 
-def roots():
-    """Clause 4 where B*B*P is K*K or next to it, by the constant for the pane's edges."""
+def root_tables():
+    """B and P, and the least constant that bears them."""
     for table, apart in (EQUAL, 0), (ABOVE, 1), (BELOW, -1):
         for span, pressure, constant in table:
             if span * span * pressure - constant * constant != apart:
                 raise SystemExit(f"roots: {span} {pressure} {constant} is not {apart} apart")
-            for edges in 2, 4:
-                for is_up in False, True:
-                    it, thick = pressed(edges, span, pressure, is_up)
-                    passes, fails = (constant + 1, constant) if apart > 0 else (constant, constant - 1)
-                    ask("roots", 0, it, by_edges(edges, passes, 1, thick=thick))
-                    ask("roots", 4, it, by_edges(edges, fails, MOST, thick=thick))
+            yield span, pressure, constant + 1 if apart > 0 else constant
+
+
+def root(group, least, it, thick):
+    """A pane that this constant for its edges bears, and one below it does not. The other constant would turn each answer."""
+    ask(group, 0, it, by_edges(it.edges, least, 1, thick=thick))
+    ask(group, 4, it, by_edges(it.edges, least - 1, MOST, thick=thick))
+
+
+def roots():
+    """Clause 4 where B*B*P is K*K or next to it, by the constant for the pane's edges."""
+    for span, pressure, least in root_tables():
+        for edges in 2, 4:
+            for is_up in False, True:
+                root("roots", least, *pressed(edges, span, pressure, is_up))
 
 
 def first_of(*failing):
@@ -423,6 +437,171 @@ def stocks():
         ask("stock", 3, pane(w=2001, h=2001), glass(stock=stock))
 
 
+def ribbons_of(span):
+    """Sides of ribbons of this span: as short as one can be and as long, each with w shorter and with h shorter."""
+    return [dict(w=w, h=h) for longer in (3 * span + 1, 5000) for w, h in ((span, longer), (longer, span))]
+
+
+def ribbon_spans():
+    """Each of the 48 spans of the two-edge column, as ribbons read it: at the entry, and a millimetre above. An entry above the
+    widest ribbon stops none, and a dash lets none pass."""
+    entries = [two for _, _, _, (*_, two) in rows()]
+    dashes, wide = entries.count(0), sum(two > WIDEST for two in entries)
+    if (len(entries), dashes, wide, len(entries) - dashes - wide) != (48, 24, 9, 15):
+        raise SystemExit(f"ribbons: of {len(entries)} entries {dashes} are dashes and {wide} are wider than a ribbon")
+    for kind, load, thick, (*_, two) in rows():
+        group, sheet, loaded = f"ribbons-{kind}-{thick}", glass(kind, thick), LOADED[load]
+        reach = min(two, WIDEST)
+        for shape in ribbons_of(reach) if reach else []:
+            ask(group, 0, pane(**loaded, **shape), sheet)
+        for shape in ribbons_of(reach + 1) if reach < WIDEST else []:
+            ask(group, 3, pane(**loaded, **shape), sheet)
+
+
+def ribbon_columns():
+    """Of each row, the sides at which AR=3 ends and ribbons begin, where their spans differ: with the narrowest and the widest
+    span that AR=3 passes and the two-edge column does not. In 4 of these rows no ribbon is above the two-edge span."""
+    told = 0
+    for kind, load, thick, (_, _, third, two) in rows():
+        group, sheet, loaded = f"ribbons-{kind}-{thick}", glass(kind, thick), LOADED[load]
+        narrowest, widest = two + 1, min(third, WIDEST)
+        if narrowest <= widest:
+            told += 1
+            for span in narrowest, widest:
+                ask(group, 0, pane(w=span, h=3 * span, **loaded), sheet)
+                ask(group, 0, pane(w=3 * span, h=span, **loaded), sheet)
+                ask(group, 3, pane(w=span, h=3 * span + 1, **loaded), sheet)
+                ask(group, 3, pane(w=3 * span + 1, h=span, **loaded), sheet)
+    differ = sum(third > two for _, _, _, (_, _, third, two) in rows())
+    if (differ, told) != (34, 30):
+        raise SystemExit(f"ribbons: AR=3 and two edges differ in {differ} rows, and ribbons tell them apart in {told}")
+
+
+def ribbon_sides():
+    """The span of a ribbon is its shorter side. Laminated toughened glass of 6 mm spans 650 with two edges, 2000 with AR=3."""
+    sheet = glass(kind=3, thick=6)
+    for shorter, longer, verdict in (
+        (650, 1950, 0), (650, 1951, 0), (650, 2500, 0), (651, 1953, 0), (651, 1954, 3), (651, 2500, 3), (217, 652, 0),
+        (666, 1998, 0), (666, 1999, 3), (1200, 5000, 3),
+    ):
+        ask("ribbon-sides", verdict, pane(w=shorter, h=longer), sheet)
+        ask("ribbon-sides", verdict, pane(w=longer, h=shorter), sheet)
+    # with two edges it is w
+    for w, h, verdict in (650, 2500, 0), (2500, 650, 3), (651, 2500, 3), (650, 100, 0):
+        ask("ribbon-sides", verdict, pane(2, w=w, h=h), sheet)
+    # example (c): laminated heat-strengthened glass of 8 mm spans 1600 with AR=3, and 800 with two edges
+    sheet = glass(kind=2, thick=8)
+    for longer, verdict in (2000, 0), (2001, 0), (3000, 0), (3001, 3):
+        ask("ribbon-sides", verdict, pane(w=1000, h=longer), sheet)
+        ask("ribbon-sides", verdict, pane(w=longer, h=1000), sheet)
+
+
+def ribbon_live_loads():
+    """The live load of a ribbon. Laminated heat-strengthened glass of 10 mm spans 1600 with two edges under 0.5 kN, 250 under
+    1.1 and nothing under 1.8. Monolithic glass of 10 mm spans 300 under 1.8."""
+    for angle in 0, 29, 30, 45, 74:
+        for awning, kind, reach in (0, 2, 250 if angle < 30 else 1600), (1, 4, 300):
+            sheet = glass(kind, 10)
+            ask("ribbon-live-load", 0, pane(angle=angle, awning=awning, w=reach, h=4900), sheet)
+            ask("ribbon-live-load", 0, pane(angle=angle, awning=awning, w=4900, h=reach), sheet)
+            ask("ribbon-live-load", 3, pane(angle=angle, awning=awning, w=reach + 1, h=4900), sheet)
+            ask("ribbon-live-load", 3, pane(angle=angle, awning=awning, w=4900, h=reach + 1), sheet)
+        ask("ribbon-live-load", 3, pane(angle=angle, awning=1, w=1, h=4), glass(2, 10))
+
+
+# sheets for a ribbon of 500 by 2500, and whether it lies within
+RIBBON_SHEETS = [
+    (500, 2500, True), (2500, 500, True), (501, 2501, True), (2500, 2500, True), (500, 9999, True), (9999, 500, True),
+    (499, 2500, False), (500, 2499, False), (2500, 499, False), (2499, 500, False), (2499, 2499, False), (499, 9999, False),
+    (9999, 499, False), (501, 2499, False), (2499, 501, False), (500, 500, False), (1500, 1500, False), (2499, 9999, True),
+]
+
+
+def ribbon_sizes():
+    """Clause 2 of ribbons, upright and turned."""
+    for w, h, is_within in RIBBON_SHEETS:
+        ask("ribbon-size", 0 if is_within else 2, pane(w=500, h=2500), glass(w=w, h=h))
+        ask("ribbon-size", 0 if is_within else 2, pane(w=2500, h=500), glass(w=w, h=h))
+    for span in 1, WIDEST:
+        for it in pane(w=span, h=5000), pane(w=5000, h=span):
+            for w, h, verdict in (span, 5000, 0), (5000, span, 0), (span, 4999, 2), (4999, span, 2):
+                ask("ribbon-size-most", verdict, it, glass(w=w, h=h))
+
+
+def ribbon_roots():
+    """Clause 4 of ribbons where B*B*P is K*K or next to it, by the constant "four"."""
+    for span, pressure, least in root_tables():
+        if span <= WIDEST:
+            it, thick = pressed(4, span, pressure, False)
+            root("ribbon-roots", least, it._replace(h=3 * span + 1), thick)
+            it, thick = pressed(4, span, pressure, True)
+            root("ribbon-roots", least, it._replace(w=5000), thick)
+
+
+def ribbon_winds():
+    """P of ribbons at 45 degrees, where 6 mm has a maximum of 40 and a minimum of 9, and 12 mm one of 80 and one of 18."""
+    for thick, maximum, minimum, widest in (6, 40, 9, 650), (12, 80, 18, WIDEST):
+        for down, up, pressure in (
+            (0, 0, maximum), (60, 95, maximum + 60), (0, 300, 300 - minimum), (1000, 1000, maximum + 1000),
+        ):
+            for w, h in (200, 800), (800, 200), (widest, 5000), (5000, widest):
+                pin("ribbon-wind", pressure, pane(w=w, h=h, down=down, up=up), thick=thick)
+
+
+def ribbon_constants():
+    """Clause 4 by constants as a glass has them. Over a span of 1666, "four" bears P 205 and no more, and "two" 163."""
+    sheet = glass(thick=12, two=21304, four=23857)
+    for edges, down, verdict in (4, 83, 0), (4, 84, 0), (4, 125, 0), (4, 126, 4), (2, 83, 0), (2, 84, 4), (2, 125, 4):
+        ask("ribbon-constants", verdict, pane(edges, w=1666, h=5000, down=down), sheet)
+    # with h shorter
+    for down, verdict in (84, 0), (125, 0), (126, 4):
+        ask("ribbon-constants", verdict, pane(w=5000, h=1666, down=down), sheet)
+    # a glass with the constants exchanged
+    sheet = glass(thick=12, two=23857, four=21304)
+    for down, verdict in (83, 0), (84, 4), (125, 4):
+        ask("ribbon-constants", verdict, pane(w=1666, h=5000, down=down), sheet)
+        ask("ribbon-constants", verdict, pane(w=5000, h=1666, down=down), sheet)
+
+
+def ribbon_orders():
+    """Every set of clauses that fail together for ribbons, as in orders. With AR=3 neither thickness would fail."""
+    for w, h in (500, 2500), (2500, 500):
+        # monolithic glass under 1.8 kN spans 300 with two edges at 10 mm, and 700 at 12
+        for top, side, thick, constant in itertools.product((2999, 3000), (2500, 2499), (12, 10), (MOST, 1)):
+            sheet = by_edges(4, constant, MOST, kind=4, thick=thick, w=side, h=500)
+            verdict = first_of(top == 3000, side == 2499, thick == 10, constant == 1)
+            ask("ribbon-order", verdict, pane(awning=1, top=top, w=w, h=h), sheet)
+        # laminated annealed glass under 0.5 kN spans 250 at 10 mm, and 700 at 12
+        for side, thick, constant in itertools.product((2500, 2499), (12, 10), (MOST, 1)):
+            sheet = by_edges(4, constant, MOST, kind=1, thick=thick, w=500, h=side)
+            ask("ribbon-order", first_of(False, side == 2499, thick == 10, constant == 1), pane(top=9000, w=w, h=h), sheet)
+
+
+# the kinds and thicknesses with a two-edge span under 1.8 kN
+AWNINGS = [(3, 12), (4, 10), (4, 12)]
+
+
+def ribbon_limits():
+    """The narrowest and the widest ribbons, with the largest and the smallest values."""
+    for kind in KINDS:
+        for thick in THICK:
+            sheet = glass(kind, thick, stock=999)
+            for w, h in (1, 5000), (5000, 1):
+                verdict = 0 if (kind, thick) in AWNINGS else 3
+                ask("ribbon-limits", 1 if kind == 4 else verdict, pane(4, 74, 1, MOST, w, h, 1000, 1000), sheet)
+                ask("ribbon-limits", verdict, pane(4, 74, 1, 0, w, h, 1000, 1000), sheet)
+    # 6 mm weighs 40 at 45 degrees: a span of 1 needs a constant of 7
+    for w, h in (1, 4), (4, 1), (1, 5000), (5000, 1):
+        for constant, verdict in (1, 4), (6, 4), (7, 0), (MOST, 0):
+            sheet = glass(3, 6, w, h, MOST if verdict else 1, constant, 0)
+            ask("ribbon-limits", verdict, pane(4, 45, 0, 0, w, h, 0, 0), sheet)
+    # P is 1114 under the highest wind, as in limits: a span of 1666 needs a constant of 55606
+    for w, h in (1666, 4999), (4999, 1666), (1666, 5000), (5000, 1666):
+        for constant, verdict in (MOST, 0), (55606, 0), (55605, 4), (1, 4):
+            sheet = glass(thick=12, two=MOST if verdict else 1, four=constant)
+            ask("ribbon-limits", verdict, pane(4, 0, 0, 2999, w, h, 1000, 1000), sheet)
+
+
 def paper_job():
     """The job of document 01, with no ids: every pane with every glass, in file order."""
     put("canopy.job", "accepted 2 2", (CRATE.parent.parent / "examples" / "canopy.job").read_bytes())
@@ -509,25 +688,27 @@ def most_bytes():
 
 
 def refused_files():
-    """A refused file has no other answer, whatever the ids."""
+    """A refused file has no other answer, whatever the ids. A ribbon is no cause."""
     sheet, window = lines("G", [(1, glass())]), lines("P", [(1, pane())])
     body, behind = sheet + window, len(sheet)
 
     def trailer(file, glass_at, pane_at):
         return file + b"T %05d %05d\n" % (glass_at, pane_at)
 
-    steep, long = lines("P", [(2, pane(angle=75))]), lines("P", [(2, pane(w=100, h=301))])
+    steep, ribbon = lines("P", [(2, pane(angle=75))]), lines("P", [(2, pane(w=100, h=301))])
     panes = lines("P", [(id, pane()) for id in range(1, 257)])
     for cause, offset, file in (
         (1, 0, b"T 00000 0000\n"), (2, len(body), body + b"T 00000 000xx\n"), (3, len(body), trailer(body, behind, 0)),
         (4, len(body), trailer(body + b"P 2\n", 0, behind)), (5, len(body), trailer(body + steep, 0, behind)),
-        (6, len(body), trailer(body + window, 0, behind)), (7, len(body), trailer(body + long, 0, behind)),
-        (8, len(sheet + panes), trailer(sheet + panes + long, 0, behind)),
+        (6, len(body), trailer(body + window, 0, behind)), (8, len(sheet + panes), trailer(sheet + panes + ribbon, 0, behind)),
     ):
         name, answer = f"cause-{cause}.job", f"refused {cause} {offset}"
         put(name, answer, file)
         run(name, [], [answer])
         run(name, [1, 1, 0, 0, 9999, 1, 1, 9999], [f"{pair} {answer}" for pair in ("1 1", "0 0", "9999 1", "1 9999")])
+    put("ribbon.job", "accepted 1 2", trailer(body + ribbon, 0, behind))
+    run("ribbon.job", [], ["1 1 passes", "2 1 passes"])
+    run("ribbon.job", [2, 1, 3, 1, 2, 9999], ["2 1 passes", "3 1 refused 10 0", "2 9999 refused 11 0"])
 
 
 def no_files():
@@ -552,7 +733,10 @@ def write():
     print(f"{len(FILES)} files, {len(answers)} lines, of which", ", ".join(counts))
 
 
-for group in spans, columns, dead_loads, kinds, sizes, roots, orders, winds, live_loads, limits, stocks:
+for group in (
+    spans, columns, dead_loads, kinds, sizes, roots, orders, winds, live_loads, limits, stocks, ribbon_spans, ribbon_columns,
+    ribbon_sides, ribbon_live_loads, ribbon_sizes, ribbon_roots, ribbon_winds, ribbon_constants, ribbon_orders, ribbon_limits,
+):
     group()
 paper_job()
 for jobs in JOBS.values():

@@ -1,8 +1,9 @@
 """Writes the vectors of place_job: the job files in data/, their names in args and what is due of each in stdout.
 
-Run `python3 generate.py`. Each job is made so that a full placing of it exists, or a short group, and that is stated here.
-Nothing is written where placing.py, which finds the one or the other by the verdicts of judge_job's clauses.py, says otherwise,
-or where reader.py of check_job's vectors reads a file otherwise.
+Run `python3 generate.py`. Each job is made so that a full placing of it exists, or a short group, and that is stated here from
+document 01 and document 02, 2026-01. Nothing is written where placing.py, which finds the one or the other by the verdicts of
+judge_job's clauses.py, says otherwise, or where reader.py of check_job's vectors reads a file otherwise. Ribbons are panes with
+four edges that are more than three times as long as wide, along w or along h.
 """
 import pathlib
 import random
@@ -164,6 +165,99 @@ def clauses_alone():
     job("no-glass-by-each-clause", "short", [sheet], panes)
 
 
+def is_ribbon(it):
+    return it.edges == 4 and max(it.w, it.h) > 3 * min(it.w, it.h)
+
+
+def cut(it):
+    """A ribbon cut to 3 times its width, which is then none and reads AR=3; any other pane as it is."""
+    longest = 3 * min(it.w, it.h)
+    return it._replace(w=min(it.w, longest), h=min(it.h, longest)) if is_ribbon(it) else it
+
+
+def short_by_ribbons(name, glasses, panes):
+    """A job that is short by its ribbons, and full once they are cut."""
+    job(name, "short", glasses, panes)
+    job(f"{name}-cut", "full", glasses, [cut(it) for it in panes])
+
+
+def ribbon_yields():
+    """Roofs that are full only if a pane moves over for a ribbon, or a ribbon for a pane. By the two-edge column and under
+    0.5 kN, laminated annealed glass spans 250 at 10 mm and 700 at 12."""
+    thick, thin = glass(kind=1, thick=12), glass(kind=1, thick=10)
+    # the ribbon needs the 12 mm; the pane before it takes that by first fit, and may have the 10 mm
+    job("ribbon-yield-h-longer", "full", [thick, thin], [pane(w=900, h=1500), pane(w=500, h=2000)], chain=2)
+    job("ribbon-yield-w-longer", "full", [thick, thin], [pane(w=900, h=1500), pane(w=2000, h=500)], chain=2)
+    # three ribbons need the three sheets of 12 mm, and three panes before them have taken those
+    panes = [pane(w=900, h=1500), pane(w=1500, h=900), pane(w=900, h=900)]
+    ribbons = [pane(w=500, h=2000), pane(w=2000, h=500), pane(w=700, h=2101)]
+    job("ribbons-yield-3-sheets", "full", [thick._replace(stock=3), thin._replace(stock=3)], panes + ribbons, chain=2)
+    # the narrow ribbon may have either, and the two-edge pane behind it needs the 12 mm
+    job("ribbon-moves-over", "full", [thick, thin], [pane(w=1000, h=250), pane(2, w=700)], chain=2)
+    # both ribbons lie within the first sheet, and the second of them within no other
+    large, small = glass(w=1200, h=4000), glass(w=500, h=2500)
+    job("ribbon-yield-by-size", "full", [large, small], [pane(w=2500, h=500), pane(w=600, h=3900)], chain=2)
+    # 200 mm under P 567 need a constant of 4763, as in yield-by-wind; by "two", both ribbons would need the second glass
+    first, second = glass(two=1, four=4763), glass(four=4762)
+    job("ribbon-yield-by-wind", "full", [first, second], [pane(w=200, h=1000), pane(w=1000, h=200, down=500)], chain=2)
+
+
+# kind and thickness, two-edge span under 0.5 kN and length of five sheets: the spans grow and the lengths fall
+RIBBON_RACK = [(1, 10, 250, 5000), (3, 6, 650, 4500), (1, 12, 700, 4000), (2, 8, 800, 3500), (2, 10, 1600, 3000)]
+
+
+def ribbon_chains():
+    """Ribbon n is as wide as sheet n can span and as long as sheet n+1, and suits these two. The last one is as long as the
+    first sheet, and suits it alone: all the others move over."""
+    glasses = [glass(1, kind, thick, 2000, length) for kind, thick, _, length in RIBBON_RACK]
+    sides = [(this[2], following[3]) for this, following in zip(RIBBON_RACK, RIBBON_RACK[1:])] + [(250, 5000)]
+    panes = [pane(w=w, h=h) if place % 2 else pane(w=h, h=w) for place, (w, h) in enumerate(sides)]
+    if rows_of(glasses, panes) != [[0, 1], [1, 2], [2, 3], [3, 4], [0]]:
+        raise SystemExit("ribbon-chain: the ribbons do not suit the sheets that were meant")
+    job("ribbon-chain-5", "full", glasses, panes, chain=5)
+    # no sheet is left at the end of the chain
+    job("ribbon-chain-5-to-nothing", "short", glasses[:4] + [glasses[4]._replace(stock=0)], panes)
+
+
+def ribbon_columns():
+    """The two-edge column keeps from ribbons what AR=3 would give them: laminated annealed glass spans 250 and not 1700 at
+    10 mm, 700 and not 1900 at 12. No roof is full by the two-edge column and short by AR=3, whose spans are never below."""
+    thick, thin = glass(kind=1, thick=12), glass(kind=1, thick=10)
+    # ribbons of 250, and panes of 251 that are 3 times as long as wide
+    panes = [pane(w=250, h=751), pane(w=751, h=250), pane(w=251, h=753), pane(w=753, h=251)]
+    job("ribbons-at-the-entry", "full", [thin._replace(stock=4)], panes)
+    # a ribbon of 251 may have no sheet
+    short_by_ribbons("ribbon-above-the-entry-h-longer", [thin], [pane(w=251, h=754)])
+    short_by_ribbons("ribbon-above-the-entry-w-longer", [thin], [pane(w=754, h=251)])
+    # two ribbons of 500 need the one sheet of 12 mm
+    ribbons = [pane(w=500, h=2000), pane(w=2000, h=500)]
+    short_by_ribbons("ribbons-two-for-one-sheet", [thick, thin], ribbons)
+    # three need the two sheets of 12 mm; the panes beside them have 10 and 8 mm enough
+    rack = [thin._replace(stock=5), thick._replace(stock=2), glass(5, kind=1, thick=8)]
+    panes = [pane(w=900, h=1500), ribbons[0], pane(w=800, h=2400), ribbons[1], pane(w=300, h=300), pane(w=700, h=2101)]
+    short_by_ribbons("ribbons-short-beside-panes", rack, panes)
+    # with a third sheet of 12 mm each of these ribbons has one
+    job("ribbons-served-beside-panes", "full", [rack[0], thick._replace(stock=3), rack[2]], panes)
+    # a two-edge pane reads the same column: it and two ribbons need the two sheets of 12 mm
+    panes = [pane(w=700, h=2101), pane(2, w=700, h=300), pane(w=2101, h=700)]
+    short_by_ribbons("ribbons-short-with-two-edges", rack, panes)
+    # an awning: 12 mm of toughened glass spans 700 for ribbons, and 10 mm nothing
+    awning = [pane(awning=1, w=700, h=2800), pane(awning=1, w=2101, h=700), pane(awning=1, w=600, h=600)]
+    short_by_ribbons("ribbons-under-an-awning", [glass(1, thick=12), glass(9, thick=10)], awning)
+    # a dash lets no ribbon pass: 8 mm of laminated annealed glass with two edges
+    short_by_ribbons("ribbon-by-a-dash", [glass(9, kind=1, thick=8)], [pane(), pane(w=1, h=4), pane(w=4, h=1)])
+
+
+def ribbon_constants():
+    """Clause 4 of ribbons goes by "four"."""
+    # the ribbon may have the first glass alone, and the two-edge pane the second alone
+    rack, two_edges = [glass(two=1), glass(four=1)], pane(2)
+    job("ribbon-by-four-h-longer", "full", rack, [pane(w=200, h=1000), two_edges])
+    job("ribbon-by-four-w-longer", "full", rack, [pane(w=1000, h=200), two_edges])
+    # two ribbons may have the first glass alone, however many sheets there are of the second
+    job("ribbons-by-four-short", "short", [glass(two=1), glass(9, four=1)], [pane(w=200, h=1000), pane(w=1000, h=200)])
+
+
 def empty_parts():
     job("no-panes", "full", [glass(3), glass(0)], [])
     job("no-glasses", "short", [], [pane(), pane(w=300), pane(h=300)])
@@ -202,10 +296,11 @@ def random_runs():
 
 def random_roofs():
     """Roofs and racks as a glazier has them, by all four clauses: each pane has a passing glass in stock, there are more sheets
-    than panes, and first fit leaves a pane with none."""
+    than panes, first fit leaves a pane with none, and there are ribbons both with w longer and with h longer. The short roofs
+    would be full if their ribbons were cut."""
     for name, due, seed, glass_count, pane_count, most in (
-        ("roof-1", "full", 2, 24, 48, 4), ("roof-1-short", "short", 3, 24, 48, 4),
-        ("roof-2", "full", 4, 64, 256, 9), ("roof-2-short", "short", 3, 64, 256, 9),
+        ("roof-1", "full", 13, 24, 48, 4), ("roof-1-short", "short", 68, 24, 48, 4),
+        ("roof-2", "full", 5, 64, 256, 9), ("roof-2-short", "short", 87, 64, 256, 9),
     ):
         dice = random.Random(seed)
         glasses = [
@@ -216,13 +311,16 @@ def random_roofs():
         panes = []
         while len(panes) < pane_count:
             it = pane(dice.choice((2, 4, 4, 4)), dice.choice((5, 15, 29, 30, 45, 60)), int(dice.random() < 0.05),
-                      dice.choice((2400, 2999, 3000, 4500)), dice.randrange(300, 1300, 50), dice.randrange(400, 1600, 50),
+                      dice.choice((2400, 2999, 3000, 4500)), dice.randrange(300, 1600, 50), dice.randrange(300, 1600, 50),
                       dice.randrange(0, 150, 5), dice.randrange(0, 250, 5))
-            if not reader.too_long((0, *it)) and any(glasses[place].stock for place in rows_of(glasses, [it])[0]):
+            if any(glasses[place].stock for place in rows_of(glasses, [it])[0]):
                 panes.append(it)
         rack = [it.stock for it in glasses]
         if sum(rack) <= pane_count or None not in placing.first_fit(rack, rows_of(glasses, panes)):
             raise SystemExit(f"{name}: too easy")
+        if {it.w > it.h for it in panes if is_ribbon(it)} != {False, True}:
+            raise SystemExit(f"{name}: not ribbons of both ways")
+        hold(f"{name}, cut", "full", glasses, [cut(it) for it in panes])
         ids = dict(glass_ids=dice.sample(range(1, 10000), glass_count), pane_ids=dice.sample(range(1, 10000), pane_count))
         job(name, due, glasses, panes, **ids)
 
@@ -239,22 +337,27 @@ def ids():
 
 
 def refused_files():
-    """A file for each cause. Their good lines are a job that could be placed."""
+    """A file for each cause that a file can have. Their good lines are a job that could be placed. A ribbon is no cause."""
     sheets, panes = lines("G", (1, 2), [glass(), glass()]), lines("P", (1, 2), [pane(), pane()])
     body, behind = sheets + panes, len(sheets)
 
     def trailer(file, glass_at, pane_at):
         return file + b"T %05d %05d\n" % (glass_at, pane_at)
 
-    again, steep, long = lines("P", (1,), [pane()]), lines("P", (3,), [pane(angle=75)]), lines("P", (3,), [pane(w=100, h=301)])
+    again, steep = lines("P", (1,), [pane()]), lines("P", (3,), [pane(angle=75)])
+    ribbon = lines("P", (3,), [pane(w=100, h=301)])
     many = lines("P", range(1, 257), [pane()] * 256)
     for cause, offset, file in (
         (1, 0, b"T 00000 0000\n"), (2, len(body), body + b"T 00000 000xx\n"), (3, len(body), trailer(body, behind, 0)),
         (4, len(body), trailer(body + b"P 3\n", 0, behind)), (5, len(body), trailer(body + steep, 0, behind)),
-        (6, len(body), trailer(body + again, 0, behind)), (7, len(body), trailer(body + long, 0, behind)),
-        (8, len(sheets + many), trailer(sheets + many + long, 0, behind)),
+        (6, len(body), trailer(body + again, 0, behind)), (8, len(sheets + many), trailer(sheets + many + ribbon, 0, behind)),
     ):
         put(f"cause-{cause}", f"refused {cause} {offset}", f"refused {cause} {offset}", file)
+    # the ribbon is a third pane: two sheets do not go round, and three do
+    roof = [pane(), pane(), pane(w=100, h=301)]
+    hold("ribbon-as-third-pane", "short", [glass(), glass()], roof)
+    put("ribbon-as-third-pane", "short", "accepted 2 3", trailer(body + ribbon, 0, behind))
+    job("ribbon-as-third-pane-on-three-sheets", "full", [glass(), glass(2)], roof)
 
 
 def write():
@@ -271,6 +374,7 @@ def write():
 
 for group in (
     paper_jobs, chains, first_fits, shortages, clauses_alone, empty_parts, largest, random_runs, random_roofs, ids, refused_files,
+    ribbon_yields, ribbon_chains, ribbon_columns, ribbon_constants,
 ):
     group()
 write()
