@@ -1,9 +1,10 @@
-//! The verdict on a pane and a glass: document 01, "The four clauses".
+//! The verdict on a pane and a glass: document 01, "The four clauses", and for ribbons document 02,
+//! 2026-01.
 
 use crate::job::{Glass, Pane};
 use crate::reader::read;
 use crate::refusal::{Refusal, NO_GLASS, NO_PANE};
-use crate::tables::{DEGREES_A_ROW, MAXIMUM_DEAD_LOADS, MINIMUM_DEAD_LOADS, SPANS};
+use crate::tables::{DEGREES_A_ROW, MAXIMUM_DEAD_LOADS, MINIMUM_DEAD_LOADS, SPANS, TWO_EDGE};
 
 pub const PASSES: usize = 0;
 pub const FAILS_KIND: usize = 1;
@@ -21,12 +22,13 @@ pub struct Loads {
     laminated_only: bool,
     w: u16,
     h: u16,
+    /// Clause 4: the constant is "four", else "two".
     four_edges: bool,
     /// Which of 0.5, 1.1 and 1.8 kN is the live load, counted from 0.
     pub live_load: usize,
     /// Column of the span tables.
     pub column: usize,
-    /// The span B in mm.
+    /// The span B in mm: w with two edges, the shorter side with four.
     pub span: u16,
     /// The pressure P in units of 0.01 kPa, by thickness.
     pub pressures: [u32; 4],
@@ -108,9 +110,11 @@ fn live_load(pane: &Pane) -> usize {
     }
 }
 
+/// The column of the span tables: the two-edge one for two edges and for a ribbon, else by the
+/// sides.
 fn column(pane: &Pane) -> usize {
-    if pane.edges == 2 {
-        3
+    if pane.edges == 2 || pane.is_ribbon() {
+        TWO_EDGE
     } else if pane.w == pane.h {
         0
     } else if pane.longer_side() <= 2 * pane.shorter_side() {

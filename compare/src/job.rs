@@ -87,6 +87,11 @@ impl Pane {
     pub fn shorter_side(&self) -> u16 {
         self.w.min(self.h)
     }
+
+    /// A ribbon has four edges and is over 3 times as long as wide: document 02, 2026-01.
+    pub fn is_ribbon(&self) -> bool {
+        self.edges == 4 && self.longer_side() > 3 * self.shorter_side()
+    }
 }
 
 /// The glasses and panes of a file, in file order.

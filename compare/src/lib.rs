@@ -1,5 +1,6 @@
-//! A second implementation of document 01 (the owner's scope document), written from that document alone,
-//! and the checks by which the proved library, which is linked here, is compared with it.
+//! A second implementation of document 01 (the owner's scope document) and request 2026-01 of
+//! document 02 (the owner's change requests), written from those alone, and the checks by which the
+//! proved library, which is linked here, is compared with it. Where they differ, document 02 holds.
 #![deny(unsafe_code)]
 
 /// The proved library through its C interface. No other module has unsafe code.

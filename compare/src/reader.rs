@@ -1,9 +1,8 @@
-//! Reading a job file: document 01, "The job file" and the order of "What each cause gives".
+//! Reading a job file: document 01, "The job file" and the order of "What each cause gives". The
+//! causes within a line are 8, 4, 5 and 6, whatever the sides of a pane: document 02, 2026-01.
 
 use crate::job::{Glass, Job, Pane, LARGEST_ID, MOST_GLASSES, MOST_PANES};
-use crate::refusal::{
-    Refusal, FORM, LENGTH, OFFSETS, RATIO, REPEATED_ID, TOO_MANY_LINES, TRAILER, VALUE,
-};
+use crate::refusal::{Refusal, FORM, LENGTH, OFFSETS, REPEATED_ID, TOO_MANY_LINES, TRAILER, VALUE};
 
 pub const TRAILER_BYTES: usize = 14;
 pub const MOST_BYTES: usize = 65_535;
@@ -27,9 +26,6 @@ pub fn read(file: &[u8]) -> Result<Job, Refusal> {
     let pane_count = read_part(pane_part, pane_offset, b'P', &mut panes, |numbers| {
         let pane = Pane::of(numbers).ok_or(VALUE)?;
         ids.add(pane.id)?;
-        if pane.edges == 4 && pane.longer_side() > 3 * pane.shorter_side() {
-            return Err(RATIO);
-        }
         Ok(pane)
     })?;
 

@@ -1,6 +1,7 @@
 //! Counts of what was compared, for the table at the end of a run.
 
 use crate::generator::Kind;
+use crate::refusal::OF_A_FILE;
 use std::fmt::{self, Display, Formatter};
 use std::time::Duration;
 
@@ -8,7 +9,8 @@ use std::time::Duration;
 pub struct Tally {
     pub kinds: [u64; Kind::ALL.len()],
     pub accepted: u64,
-    /// Refused files by number, 1 to 8.
+    /// Refused files by number, 1 to 8. The second implementation refuses none with 7 (document 02,
+    /// 2026-01), so that count stays 0, and a 7 that the library gives is a difference.
     pub refused: [u64; 9],
     /// Answered verdicts by clause, 0 for "passes".
     pub verdicts: [u64; 5],
@@ -49,8 +51,8 @@ impl Display for Tally {
             row(&format!("files, {}", kind.name()), count)?;
         }
         row("accepted", self.accepted)?;
-        for (number, count) in self.refused.iter().enumerate().skip(1) {
-            row(&format!("refused, number {number}"), *count)?;
+        for number in OF_A_FILE {
+            row(&format!("refused, number {number}"), self.refused[number])?;
         }
         row("verdicts, passes", self.verdicts[0])?;
         for (clause, count) in self.verdicts.iter().enumerate().skip(1) {

@@ -1,21 +1,24 @@
-//! Panes and glasses on either side of every boundary in document 01, "The four clauses".
+//! Panes and glasses on either side of every boundary in document 01, "The four clauses", and
+//! document 02, 2026-01.
 
-use super::plan::{sizes, strong_glass, Plan};
+use super::plan::{either_way_round, sizes, strong_glass, Plan};
+use super::spans;
 use crate::clauses::{thickness_index, Loads, THICKNESSES};
 use crate::job::{Glass, Pane};
 use crate::random::Random;
-use crate::tables::SPANS;
+use crate::tables::TWO_EDGE;
 
 /// Pairs of a pane and a glass at some boundary. Every other pair of the job is judged as well.
 pub fn plan(random: &mut Random) -> Plan {
     let (glasses, panes) = sizes(random);
     let mut plan = Plan::default();
     for at in 0..glasses.max(panes) {
-        let (pane, glass) = match random.below(6) {
+        let (pane, glass) = match random.below(8) {
             0 => kind(random),
             1 => size(random),
-            2 | 3 => span(random),
-            4 => pressure(random),
+            2 | 3 => spans::entry(random),
+            4 => spans::three_times(random),
+            5 | 6 => pressure(random),
             _ => allowed_extremes(random),
         };
         if at < panes {
@@ -31,9 +34,15 @@ pub fn plan(random: &mut Random) -> Plan {
     plan
 }
 
-/// A pane for which the strong glass passes.
+/// A four-edge pane for which the strong glass passes. One in two is a ribbon.
 fn easy_pane(random: &mut Random) -> Pane {
-    let w = random.draw(1..=1_600u16);
+    let shorter = random.draw(1..=1_600u16);
+    let longer = if random.one_in(2) {
+        random.draw(shorter..=3 * shorter)
+    } else {
+        random.draw(3 * shorter + 1..=5_000)
+    };
+    let (w, h) = either_way_round((shorter, longer), random);
     Pane {
         id: 0,
         edges: 4,
@@ -41,9 +50,19 @@ fn easy_pane(random: &mut Random) -> Pane {
         awning: false,
         top: random.pick(&[0, 2_500, 2_999, 3_000, 7_000]),
         w,
-        h: random.draw(w..=3 * w),
+        h,
         down: random.draw(0..=200),
         up: random.draw(0..=200),
+    }
+}
+
+/// A two-edge pane for which the strong glass passes.
+fn easy_two_edge_pane(random: &mut Random) -> Pane {
+    Pane {
+        edges: 2,
+        w: random.draw(1..=1_600),
+        h: random.draw(1..=5_000),
+        ..easy_pane(random)
     }
 }
 
@@ -64,8 +83,8 @@ fn kind(random: &mut Random) -> (Pane, Glass) {
 fn size(random: &mut Random) -> (Pane, Glass) {
     let pane = easy_pane(random);
     let mut near = |side: u16| (side + random.pick(&[0, 1, 1, 2])).max(2) - 1;
-    let (w, h) = (near(pane.w), near(pane.h));
-    let (w, h) = if random.one_in(2) { (w, h) } else { (h, w) };
+    let sides = (near(pane.w), near(pane.h));
+    let (w, h) = either_way_round(sides, random);
     let glass = Glass {
         w,
         h,
@@ -74,50 +93,16 @@ fn size(random: &mut Random) -> (Pane, Glass) {
     (pane, glass)
 }
 
-/// Spans at an entry of the tables and one mm off, with sides at the ends of the column.
-fn span(random: &mut Random) -> (Pane, Glass) {
-    let kind = random.draw(1..=4u8);
-    let live_load = random.below(3);
-    let thick = random.pick(&THICKNESSES);
-    let column = random.below(4);
-    let entry = SPANS[usize::from(kind) - 1][live_load][thickness_index(thick)][column];
-    let b = (entry + random.pick(&[0, 1, 1, 2, 2])).max(2) - 1;
-    let other = match column {
-        0 => b,
-        1 => random.pick(&[b + 1, 2 * b]),
-        2 => random.pick(&[2 * b + 1, 3 * b]).min(5_000),
-        _ => random.draw(1..=5_000),
-    };
-    let turned = column != 3 && random.one_in(2);
-    let angle = match live_load {
-        0 => random.pick(&[30, 31, 45, 74]),
-        1 => random.pick(&[0, 5, 28, 29]),
-        _ => random.draw(0..=74),
-    };
-    let pane = Pane {
-        id: 0,
-        edges: if column == 3 { 2 } else { 4 },
-        angle,
-        awning: live_load == 2,
-        top: random.pick(&[0, 2_999, 3_000]),
-        w: if turned { other } else { b },
-        h: if turned { b } else { other },
-        down: 0,
-        up: 0,
-    };
-    let glass = Glass {
-        kind,
-        thick,
-        ..strong_glass()
-    };
-    (pane, glass)
-}
-
-/// Constants K with K times K at B times B times P and beside it, at the rows of the dead loads.
+/// Constants K with K times K at B times B times P and beside it, at the rows of the dead loads. The
+/// other constant of the glass would turn the answer.
 fn pressure(random: &mut Random) -> (Pane, Glass) {
     let upward = random.one_in(2);
+    let easy = if random.one_in(3) {
+        easy_two_edge_pane(random)
+    } else {
+        easy_pane(random)
+    };
     let mut pane = Pane {
-        edges: random.pick(&[2, 4]),
         angle: 5 * random.draw(0..=14u8) + random.pick(&[0, 0, 1, 4]),
         down: if upward { 0 } else { random.draw(0..=900) },
         up: if upward {
@@ -125,9 +110,9 @@ fn pressure(random: &mut Random) -> (Pane, Glass) {
         } else {
             random.draw(0..=30)
         },
-        ..easy_pane(random)
+        ..easy
     };
-    let thick = if pane.edges == 2 {
+    let thick = if Loads::of(&pane).column == TWO_EDGE {
         12
     } else {
         random.pick(&THICKNESSES)
@@ -141,9 +126,10 @@ fn pressure(random: &mut Random) -> (Pane, Glass) {
         *wind += more;
     }
     let b = u64::from(Loads::of(&pane).span);
-    let k = (b * b * u64::from(p(&pane))).isqrt() + random.pick(&[0, 1, 1, 2]);
-    let k = (k.max(2) - 1).min(99_999) as u32;
-    let other = random.pick(&[1, 99_999]);
+    let bbp = b * b * u64::from(p(&pane));
+    let k = (bbp.isqrt() + random.pick(&[0, 1, 1, 2])).max(2) - 1;
+    let other = if k * k < bbp { 99_999 } else { 1 };
+    let k = k.min(99_999) as u32;
     let glass = Glass {
         thick,
         two: if pane.edges == 2 { k } else { other },
@@ -156,6 +142,7 @@ fn pressure(random: &mut Random) -> (Pane, Glass) {
 /// Numbers at the ends of their allowed values.
 fn allowed_extremes(random: &mut Random) -> (Pane, Glass) {
     let w = random.pick(&[1, 2, 1_666, 1_667, 5_000]);
+    let h = random.pick(&[1, w, 2 * w, 3 * w, 3 * w + 1, 5_000]);
     let pane = Pane {
         id: 0,
         edges: random.pick(&[2, 4]),
@@ -163,7 +150,7 @@ fn allowed_extremes(random: &mut Random) -> (Pane, Glass) {
         awning: random.one_in(2),
         top: random.pick(&[0, 99_999]),
         w,
-        h: random.pick(&[w, 2 * w, 3 * w]).min(5_000),
+        h: h.min(5_000),
         down: random.pick(&[0, 1_000]),
         up: random.pick(&[0, 1_000]),
     };

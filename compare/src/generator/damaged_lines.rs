@@ -1,5 +1,5 @@
 //! Files with faults in their lines under a right trailer: document 01, "What each cause gives",
-//! numbers 4 to 7.
+//! numbers 4 to 6.
 
 use super::draft::Draft;
 use super::{honest, NEAR_BYTES};
@@ -86,7 +86,6 @@ fn damage_line(draft: &mut Draft, Spot { glass, at }: Spot, random: &mut Random)
             let id = fields(&lines[other]).swap_remove(1);
             edit(&mut lines[at], |fields| fields[1] = id);
         }
-        6..=8 if !glass => make_slender(&mut lines[at], random),
         6..=11 => {
             let number = random.pick(outside[field - 1]);
             edit(&mut lines[at], |fields| set(fields, field, number));
@@ -96,17 +95,6 @@ fn damage_line(draft: &mut Draft, Spot { glass, at }: Spot, random: &mut Random)
         }),
         _ => edit_bytes(&mut lines[at], random),
     }
-}
-
-/// Sets a pane's sides to a ratio of 3 or a little more.
-fn make_slender(line: &mut Vec<u8>, random: &mut Random) {
-    let shorter = random.draw(1..=1_666u32);
-    let longer = 3 * shorter + random.pick(&[0, 1, 1, 2]);
-    let turned = random.one_in(2);
-    edit(line, |fields| {
-        set(fields, 6, if turned { longer } else { shorter });
-        set(fields, 7, if turned { shorter } else { longer });
-    });
 }
 
 fn damage_fields(fields: &mut Vec<Vec<u8>>, at: usize, random: &mut Random) {

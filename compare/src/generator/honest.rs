@@ -1,6 +1,6 @@
-//! Plausible roofs and racks, in ranges where every verdict occurs.
+//! Plausible roofs and racks, in ranges where every verdict occurs, on ribbons too.
 
-use super::plan::{sizes, Plan};
+use super::plan::{either_way_round, sizes, Plan};
 use crate::job::{Glass, Pane, MOST_GLASSES, MOST_PANES};
 use crate::random::Random;
 
@@ -65,12 +65,10 @@ fn glass(most_sheets: u16, random: &mut Random) -> Glass {
 
 /// A pane as it is repeated on a roof.
 fn style(random: &mut Random) -> Pane {
-    let edges = random.pick(&[4, 4, 4, 2]);
-    let longest = if edges == 4 { 36 } else { 14 };
-    let w = 50 * random.draw(5..=longest);
-    let h = match edges {
-        2 => 50 * random.draw(10..=60),
-        _ => (w + 50 * random.draw(0..=w / 25)).min(3_600),
+    let (edges, (w, h)) = match random.below(4) {
+        0 => (2, (50 * random.draw(5..=14), 50 * random.draw(10..=60))),
+        1 => (4, ribbon(random)),
+        _ => (4, rectangle(random)),
     };
     Pane {
         id: 0,
@@ -85,11 +83,24 @@ fn style(random: &mut Random) -> Pane {
     }
 }
 
+/// Sides of a ratio up to 3.
+fn rectangle(random: &mut Random) -> (u16, u16) {
+    let w = 50 * random.draw(5..=36);
+    let h = w + 50 * random.draw(0..=w / 25);
+    (w, h.min(3_600))
+}
+
+/// Sides of a ratio of 4 or 5, as is usual for ribbons, and at times of 8.
+fn ribbon(random: &mut Random) -> (u16, u16) {
+    let shorter = 50 * random.draw(3..=20);
+    let longer = shorter * random.pick(&[4, 4, 5, 5, 8]);
+    either_way_round((shorter, longer.min(5_000)), random)
+}
+
 /// One pane of a style: at times cut smaller, or in a corner with more wind.
 fn vary(pane: &mut Pane, random: &mut Random) {
     if random.one_in(4) {
-        pane.h = pane.h - random.draw(0..=pane.h / 20);
-        pane.h = pane.h.max(pane.w.div_ceil(3));
+        pane.h -= random.draw(0..=pane.h / 20);
     }
     if random.one_in(4) {
         pane.up += random.draw(0..=200u16);

@@ -1,4 +1,5 @@
-//! Job files by seed, of seven kinds, for "The job file" and all that follows in document 01.
+//! Job files by seed, of seven kinds, for "The job file" and all that follows in document 01, and for
+//! document 02, 2026-01.
 
 mod boundaries;
 mod damaged_anywhere;
@@ -8,6 +9,7 @@ mod honest;
 mod limits;
 mod plan;
 mod shapes;
+mod spans;
 
 use crate::random::Random;
 use draft::Draft;

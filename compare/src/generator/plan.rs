@@ -33,8 +33,17 @@ pub fn sizes(random: &mut Random) -> (usize, usize) {
     }
 }
 
-/// A glass that passes for every four-edge pane with a span up to 2000 that is no awning and has
-/// 30 degrees or more.
+/// Sides in either order.
+pub fn either_way_round((one, other): (u16, u16), random: &mut Random) -> (u16, u16) {
+    if random.one_in(2) {
+        (one, other)
+    } else {
+        (other, one)
+    }
+}
+
+/// A glass that passes for every pane with a span up to 2000 that is no awning and has 30 degrees
+/// or more.
 pub fn strong_glass() -> Glass {
     Glass {
         id: 1,

@@ -1,12 +1,16 @@
 //! Jobs that are hard for document 01, "The placing". The sheets rise in width as they fall in
 //! height, so that a pane's sides set any interval of glasses that pass for it.
 
-use super::plan::{sizes, strong_glass, Plan};
+use super::plan::{either_way_round, sizes, strong_glass, Plan};
 use crate::job::{Glass, Pane};
 use crate::random::Random;
 
 /// A pane's glasses, first and last.
 type Interval = (usize, usize);
+
+/// Widths of the first sheet, in mm. With 400 all panes are ribbons, and with 1000 none is. With 700
+/// some are where the rack is large, and with 820 also where it is small.
+const FIRST_WIDTHS: [u16; 4] = [400, 700, 820, 1_000];
 
 pub fn plan(random: &mut Random) -> Plan {
     let (glasses, panes) = sizes(random);
@@ -34,11 +38,16 @@ struct Shape {
 
 impl Shape {
     fn plan(&self, random: &mut Random) -> Plan {
-        let stocks = self.stocks.iter().enumerate();
-        let mut plan = Plan {
-            glasses: stocks.map(|(at, &stock)| sheet(at, stock)).collect(),
-            panes: self.intervals.iter().map(|&sides| pane(sides)).collect(),
-        };
+        let first_width = random.pick(&FIRST_WIDTHS);
+        let mut plan = Plan::default();
+        for (at, &stock) in self.stocks.iter().enumerate() {
+            let sides = sides(first_width, (at, at));
+            plan.glasses.push(sheet(sides, stock));
+        }
+        for &interval in &self.intervals {
+            let sides = either_way_round(sides(first_width, interval), random);
+            plan.panes.push(pane(sides));
+        }
         match random.below(4) {
             0 => random.shuffle(&mut plan.glasses),
             1 => plan.glasses.reverse(),
@@ -49,25 +58,33 @@ impl Shape {
     }
 }
 
-fn sheet(at: usize, stock: u16) -> Glass {
+/// The sides of the largest pane that lies within all sheets of an interval. Every height is above
+/// every width, so that the pane lies within no other sheet, either way round.
+fn sides(first_width: u16, (first, last): Interval) -> (u16, u16) {
+    let width = first_width + 5 * first as u16;
+    let height = 2_500 - 5 * last as u16;
+    (width, height)
+}
+
+fn sheet((w, h): (u16, u16), stock: u16) -> Glass {
     Glass {
-        w: 1_000 + 5 * at as u16,
-        h: 2_500 - 5 * at as u16,
+        w,
+        h,
         stock,
         ..strong_glass()
     }
 }
 
-/// The pane that lies within the sheets of an interval. Its height is above every sheet's width.
-fn pane((first, last): Interval) -> Pane {
+/// A pane of these sides, for which every sheet passes that it lies within.
+fn pane((w, h): (u16, u16)) -> Pane {
     Pane {
         id: 0,
         edges: 4,
         angle: 45,
         awning: false,
         top: 4_000,
-        w: 1_000 + 5 * first as u16,
-        h: 2_500 - 5 * last as u16,
+        w,
+        h,
         down: 60,
         up: 95,
     }

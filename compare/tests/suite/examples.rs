@@ -1,6 +1,7 @@
-//! The bench examples (a) to (j) of document 01 on the second implementation.
+//! The bench examples (a) to (j) of document 01 on the second implementation, with the last size of
+//! (c) by document 02, 2026-01.
 
-use crate::jobs::{accepted, refused, EXAMPLE_J};
+use crate::jobs::{accepted, glass, EXAMPLE_J};
 use compare::clauses::{
     verdict, Loads, FAILS_KIND, FAILS_POINT_LOAD, FAILS_SIZE, FAILS_UNIFORM_LOAD, PASSES,
 };
@@ -18,20 +19,6 @@ fn pane() -> Pane {
         w: 1000,
         h: 1000,
         ..Pane::default()
-    }
-}
-
-/// A glass that passes for every pane of these examples.
-fn glass() -> Glass {
-    Glass {
-        id: 1,
-        kind: 3,
-        thick: 12,
-        w: 9999,
-        h: 9999,
-        two: 99_999,
-        four: 99_999,
-        stock: 1,
     }
 }
 
@@ -61,12 +48,12 @@ fn b_kind() {
 
 #[test]
 fn c_column() {
-    let column = |h| Loads::of(&Pane { h, ..pane() }).column;
+    let column = |h| {
+        let job = accepted("", &format!("P 1 4 0 0 0 1000 {h} 0 0\n"));
+        Loads::of(&job.panes()[0]).column
+    };
     assert_eq!([1000, 1001, 2000, 2001, 3000].map(column), [0, 1, 1, 2, 2]);
-    let pane_part = |edges, h| format!("P 1 {edges} 0 0 0 1000 {h} 0 0\n");
-    assert_eq!(accepted("", &pane_part(4, 3000)).panes().len(), 1);
-    assert_eq!(refused("", &pane_part(4, 3001)), Refusal::new(7, 0));
-    assert_eq!(accepted("", &pane_part(2, 3001)).panes().len(), 1);
+    assert_eq!(column(3001), 3);
 }
 
 #[test]

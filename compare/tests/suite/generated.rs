@@ -5,6 +5,7 @@ use compare::comparison::compare;
 use compare::flow::most_served;
 use compare::generator::{generate, Kind};
 use compare::random::Random;
+use compare::refusal::OF_A_FILE;
 use compare::tally::Tally;
 
 #[test]
@@ -50,10 +51,11 @@ fn every_case_is_generated() {
     let few = 10;
     let counts = [tally.accepted, tally.full_placings, tally.short_placings];
     let counts = counts.into_iter().chain(tally.kinds);
-    let counts = counts.chain(tally.refused.into_iter().skip(1));
+    let counts = counts.chain(OF_A_FILE.map(|number| tally.refused[number]));
     let counts: Vec<u64> = counts.chain(tally.verdicts).collect();
-    assert_eq!(counts.len(), 3 + Kind::ALL.len() + 8 + 5);
+    assert_eq!(counts.len(), 3 + Kind::ALL.len() + 7 + 5);
     assert!(counts.iter().all(|&count| count >= few), "{tally}");
+    assert_eq!(tally.refused[7], 0, "{tally}");
     assert!(
         largest > 2_000,
         "no text of a large roof, at most {largest}"

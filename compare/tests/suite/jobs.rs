@@ -1,6 +1,6 @@
-//! Job files that the tests share.
+//! Job files, and a glass, that the tests share.
 
-use compare::job::Job;
+use compare::job::{Glass, Job};
 use compare::reader::read;
 use compare::refusal::Refusal;
 
@@ -21,6 +21,15 @@ P 4 4 10 0 3000 500 1000 60 95
 T 00000 00066
 ";
 
+/// Two ribbons, five and four times as long as wide: every pane can be served, but not by first fit.
+/// Pane 3 passes with both glasses. Pane 1 passes with glass 9 only, since 10 mm spans 250.
+pub const RIBBON_JOB: &[u8] = b"G 9 1 12 2400 3600 21304 23857 1
+G 7 1 10 2400 3600 17976 20130 1
+P 3 4 30 0 3000 250 1250 60 95
+P 1 4 30 0 3000 2800 700 60 95
+T 00000 00066
+";
+
 /// A file of these parts, without notes.
 fn file(glass_part: &str, pane_part: &str) -> Vec<u8> {
     format!("{glass_part}{pane_part}T 00000 {:05}\n", glass_part.len()).into_bytes()
@@ -34,4 +43,18 @@ pub fn refused(glass_part: &str, pane_part: &str) -> Refusal {
 /// The job of a file of these parts.
 pub fn accepted(glass_part: &str, pane_part: &str) -> Job {
     read(&file(glass_part, pane_part)).expect("an accepted file")
+}
+
+/// A glass that passes for every pane with a span up to 2000 and a live load of 0.5 kN.
+pub fn glass() -> Glass {
+    Glass {
+        id: 1,
+        kind: 3,
+        thick: 12,
+        w: 9999,
+        h: 9999,
+        two: 99_999,
+        four: 99_999,
+        stock: 1,
+    }
 }

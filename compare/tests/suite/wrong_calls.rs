@@ -1,13 +1,13 @@
 //! A library with wrong answers, each of which the comparison of a file has to find.
 
-use crate::jobs::{EXAMPLE_J, SHORT_JOB};
+use crate::jobs::{EXAMPLE_J, RIBBON_JOB, SHORT_JOB};
 use crate::reference::Reference;
 use compare::bordavina::{CheckResult, PlaceResult, VerdictResult, TEXT_SIZE};
 use compare::calls::Library;
 use compare::comparison::{compare, TEXT_LEFT, TEXT_WITHIN};
 use compare::place_call::{ACCEPTED, ANSWERS_LEFT, GROUP_LEFT, REFUSED};
 use compare::random::Random;
-use compare::refusal::{NO_GLASS, NO_PANE, SHORT_LIST};
+use compare::refusal::{Refusal, NO_GLASS, NO_PANE, SHORT_LIST};
 use compare::rules::{GROUP, PLACED, STOCK, WANTED};
 use compare::text::FORM;
 
@@ -65,6 +65,7 @@ fn unaltered_answers() {
     for file in [
         EXAMPLE_J,
         SHORT_JOB,
+        RIBBON_JOB,
         b"",
         b"T 00000 00000\n",
         b"GT 00000 00001\n",
@@ -126,6 +127,37 @@ fn altered_verdicts() {
         "verdict",
         "number: 10,"
     ));
+}
+
+/// Number 7 for the line of the first ribbon, which document 02, 2026-01, lets no call give.
+const RIBBON_REFUSED: Refusal = Refusal::new(7, 66);
+
+#[test]
+fn ribbons_refused_with_number_7() {
+    let check = Altered {
+        check: Some(|answer| *answer = RIBBON_REFUSED.into()),
+        ..Altered::default()
+    };
+    assert!(found(&check, RIBBON_JOB, "check", "number: 0"));
+    let verdict = Altered {
+        verdict: Some(|answer| *answer = RIBBON_REFUSED.into()),
+        ..Altered::default()
+    };
+    assert!(found(&verdict, RIBBON_JOB, "verdict", "number: 0"));
+    let place = Altered {
+        place: Some(|answer, _, _| *answer = RIBBON_REFUSED.into()),
+        ..Altered::default()
+    };
+    assert!(found(&place, RIBBON_JOB, "place", ACCEPTED));
+    let report = Altered {
+        report: Some(|length, text| {
+            let line = b"refused 7 66\n";
+            text[..line.len()].copy_from_slice(line);
+            *length = line.len();
+        }),
+        ..Altered::default()
+    };
+    assert!(found(&report, RIBBON_JOB, "report", FORM));
 }
 
 fn fill_last(list: &mut [u32]) {

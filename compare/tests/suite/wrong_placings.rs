@@ -1,6 +1,6 @@
 //! Wrong placings, each of which has to be found by the rules that it breaks.
 
-use crate::jobs::{EXAMPLE_J, SHORT_JOB};
+use crate::jobs::{EXAMPLE_J, RIBBON_JOB, SHORT_JOB};
 use compare::reader::read;
 use compare::roof::Roof;
 use compare::rules::{
@@ -31,11 +31,14 @@ fn right_placings() {
     assert_eq!(broken(EXAMPLE_J, &[7, 9], (2, 2), &[]), [""; 0]);
     assert_eq!(broken(SHORT_JOB, &[7, 9, 0], (2, 3), &[3, 4]), [""; 0]);
     assert_eq!(broken(SHORT_JOB, &[7, 0, 9], (2, 3), &[4, 3]), [""; 0]);
+    assert_eq!(broken(RIBBON_JOB, &[7, 9], (2, 2), &[]), [""; 0]);
 }
 
 #[test]
 fn first_fit() {
     let rules = broken(EXAMPLE_J, &[9, 0], (1, 2), &[2]);
+    assert_eq!(rules, [ALL_SERVED, SHORT]);
+    let rules = broken(RIBBON_JOB, &[9, 0], (1, 2), &[1]);
     assert_eq!(rules, [ALL_SERVED, SHORT]);
 }
 
@@ -63,6 +66,7 @@ fn counts_made_up() {
 fn glass_that_does_not_pass() {
     assert_eq!(broken(EXAMPLE_J, &[9, 7], (2, 2), &[]), [PASSING]);
     assert_eq!(broken(EXAMPLE_J, &[8, 9], (2, 2), &[]), [PASSING]);
+    assert_eq!(broken(RIBBON_JOB, &[9, 7], (2, 2), &[]), [PASSING]);
 }
 
 #[test]
