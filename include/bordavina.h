@@ -22,9 +22,9 @@ extern "C" {
 /* The bytes of a buffer that holds every text. */
 #define BORDAVINA_TEXT_SIZE 4096
 
-/* The numbers of refusals. The `number` of a result is one of these, and its `offset` is where the cause was found, counted in
- * bytes from the start of the file. The rest of a refused result is 0. One that is not refused has offset 0. The numbers 12 to
- * 19 are kept for later calls. */
+/* The numbers of refusals. The `number` of a result is one of these, but never 7, and its `offset` is where the cause was found,
+ * counted in bytes from the start of the file. The rest of a refused result is 0. One that is not refused has offset 0. The
+ * numbers 12 to 19 are kept for later calls. */
 enum {
     BORDAVINA_NOT_REFUSED = 0,
 
@@ -39,7 +39,7 @@ enum {
     BORDAVINA_LINE_FORM = 4,      /* the line is not of its part's form, or lacks its newline */
     BORDAVINA_NUMBER_VALUE = 5,   /* a number is not among its allowed values */
     BORDAVINA_REPEATED_ID = 6,    /* the id is already on an earlier line of the part */
-    BORDAVINA_TOO_LONG = 7,       /* a pane with four edges is more than 3 times as long as wide */
+    BORDAVINA_TOO_LONG = 7,       /* given by no call any more, and not used again: long panes are accepted */
     BORDAVINA_TOO_MANY_LINES = 8, /* the 65th glass line or the 257th pane line begins */
 
     /* bordavina_place; offset 0. */
