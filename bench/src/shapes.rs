@@ -110,18 +110,26 @@ fn heavy_shortage(glass_count: usize, pane_count: usize, random: &mut Random) ->
     (glasses, panes.collect())
 }
 
+/// What the edge cover takes of each side of a sound glass of 12 mm; of one of 10 mm it takes 16.
+const COVERED: usize = 18;
+
 /// The sheets at 0, 1, .. grow wider and less high, so that a pane can be made for any interval of
 /// them. None is as wide as any is high: no pane fits one turned.
 fn sheet(at: usize, stock: usize, random: &mut Random) -> GlassNumbers {
-    sound_glass(1_000 + 10 * at, 3_000 - 10 * at, stock, random)
+    sound_glass(
+        1_000 + 10 * at + COVERED,
+        3_000 - 10 * at + COVERED,
+        stock,
+        random,
+    )
 }
 
-/// A pane that lies within the sheets at `from` to `to` and within no others.
+/// A pane that the sheets at `from` to `to` cover, and no others.
 fn interval(from: usize, to: usize, random: &mut Random) -> PaneNumbers {
     fair_pane(1_000 + 10 * from, 3_000 - 10 * to, random)
 }
 
-/// A glass that passes for every fair pane that lies within it.
+/// A glass that passes for every fair pane that its sheet covers.
 fn sound_glass(w: usize, h: usize, stock: usize, random: &mut Random) -> GlassNumbers {
     GlassNumbers {
         kind: random.draw(1..=3),

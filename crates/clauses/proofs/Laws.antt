@@ -1,5 +1,7 @@
 -- The front page of the clause check's laws: what the layers above may cite. Each is stated in specs/ and proved in the file named.
 -- Of the verdict of any pane and glass: the first clause that fails, larger constants, the stock, panes that are no ribbons.
 pub use Rattle.clauses.proofs.VerdictLaws.{verdict-laws}
+-- Of cut size and sight size: clauses 3 and 4 read neither sheet nor cover, and no failure by sight size turned into a pass.
+pub use Rattle.clauses.proofs.SightLaws.{sight-laws}
 -- The answer to a question about an accepted file, by the places of the two ids.
 pub use Rattle.clauses.proofs.Answers.{answer-pair}

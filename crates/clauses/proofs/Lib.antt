@@ -2,6 +2,7 @@
 pub mod Laws
 -- Laws of the verdict.
 pub mod VerdictLaws
+pub mod SightLaws
 -- The verdict, and the answers to questions.
 pub mod Verdicts
 pub mod Answers

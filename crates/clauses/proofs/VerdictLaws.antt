@@ -12,22 +12,18 @@ use Rattle.basics.proofs.Tests.{clash}
 use Rattle.job_glass.specs.declared.Glass.{Glass}
 use Rattle.job_pane.specs.declared.Pane.{Pane}
 use Rattle.job_pane.specs.Sides.{inProportion}
+use Rattle.cut_size.specs.Size.{sizeFails}
 use Rattle.point_load.specs.PointLoad.{pointLoadFails}
 use Rattle.point_load.specs.RibbonLaws.{columnBefore}
 use Rattle.point_load.proofs.RibbonLaws.{ribbon-laws}
 use Rattle.uniform_load.specs.UniformLoad.{spanConstant, uniformLoadFails}
 use Rattle.clauses.specs.Kind.{kindFails}
-use Rattle.clauses.specs.Size.{sizeFails}
-use Rattle.clauses.specs.Verdict.{verdictOf}
+use Rattle.clauses.specs.Verdict.{firstFailure, verdictOf}
 use Rattle.clauses.specs.Laws.{clauseFails, FirstToFail, withConstants, withStock, verdictIn, VerdictLaws}
-use Rattle.clauses.specs.declared.judging.Verdict.{Verdict}
 use Rattle.clauses.specs.declared.judging.Verdict.the-variants.{Passes, Fails}
 use Rattle.clauses.proofs.Verdicts.{passes}
 
--- The verdict and the clauses by number, of any four tests.
-abbrev verdict : Bool → Bool → Bool → Bool → Verdict
-verdict a b c d = if a then Fails 1 else if b then Fails 2 else if c then Fails 3 else if d then Fails 4 else Passes
-
+-- The clauses by number, of any four tests.
 abbrev nth : ℕ → Bool → Bool → Bool → Bool → Bool
 nth n a b c d = if eqb n 1 then a else if eqb n 2 then b else if eqb n 3 then c else d
 
@@ -57,7 +53,7 @@ record First (n : ℕ) (a b c d : Bool) : Type 0 where
   fails : nth n a b c d ≡ true
   before : (m : ℕ) → 1 ≤ m → m < n → nth m a b c d ≡ false
 
-first-of : (n : ℕ) (a b c d : Bool) → verdict a b c d ≡ Fails n → First n a b c d
+first-of : (n : ℕ) (a b c d : Bool) → firstFailure a b c d ≡ Fails n → First n a b c d
 first-of n true b c d e =
     let is : n ≡ 1 = cc in
     record { low = omega arith; high = omega arith; fails = rw is; before = λ m l h. absurd (omega arith) }
@@ -97,7 +93,7 @@ record NoneFails (a b c d : Bool) : Type 0 where
   point : c ≡ false
   uniform : d ≡ false
 
-none-of : (a b c d : Bool) → verdict a b c d ≡ Passes → NoneFails a b c d
+none-of : (a b c d : Bool) → firstFailure a b c d ≡ Passes → NoneFails a b c d
 none-of true b c d e = clash (cc)
 none-of false true c d e = clash (cc)
 none-of false false true d e = clash (cc)

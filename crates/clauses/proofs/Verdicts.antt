@@ -8,6 +8,7 @@ use mathlib.Core.Bool.{true, false}
 use Rattle.job_glass.specs.declared.Glass.{Glass}
 use Rattle.job_pane.specs.Internal.Values.{PaneValues}
 use Rattle.job_pane.specs.declared.Pane.{Pane}
+use Rattle.cut_size.specs.Size.{sizeFails}
 use Rattle.point_load.specs.PointLoad.{pointLoadFails}
 use Rattle.point_load.specs.Internal.Steps.{tooWide}
 use Rattle.point_load.proofs.Columns.{column-high}
@@ -15,7 +16,6 @@ use Rattle.uniform_load.specs.UniformLoad.{uniformLoadFails}
 use Rattle.uniform_load.specs.Internal.Steps.{overloaded, UniformValues}
 use Rattle.uniform_load.proofs.Bounds.{uniform-values}
 use Rattle.clauses.specs.Kind.{kindFails}
-use Rattle.clauses.specs.Size.{sizeFails}
 use Rattle.clauses.specs.Verdict.{verdictOf}
 use Rattle.clauses.specs.Internal.Loaded.{loadedOf}
 use Rattle.clauses.specs.declared.judging.LoadedPane.{LoadedPane}

@@ -7,13 +7,13 @@ use Rattle.basics.specs.Choice.{if_then_else_}
 use Rattle.job_glass.specs.declared.Glass.{Glass}
 use Rattle.job_pane.specs.declared.Pane.{Pane}
 use Rattle.job_pane.specs.Sides.{inProportion}
+use Rattle.cut_size.specs.Size.{sizeFails}
 use Rattle.point_load.specs.Support.{spanOf}
 use Rattle.point_load.specs.PointLoad.{entryIn, pointLoadFails}
 use Rattle.point_load.specs.RibbonLaws.{columnBefore}
 use Rattle.uniform_load.specs.UniformLoad.{uniformLoadFails}
 use Rattle.clauses.specs.Kind.{kindFails}
-use Rattle.clauses.specs.Size.{sizeFails}
-use Rattle.clauses.specs.Verdict.{verdictOf}
+use Rattle.clauses.specs.Verdict.{firstFailure, verdictOf}
 use Rattle.clauses.specs.declared.judging.Verdict.{Verdict}
 use Rattle.clauses.specs.declared.judging.Verdict.the-variants.{Passes, Fails}
 
@@ -60,11 +60,7 @@ withStock stock g = record {
 -- The verdict, if clause 3 read its entry in this column.
 abbrev pub verdictIn : (column : ℕ) → Pane → Glass → Verdict
 verdictIn column p g =
-    if kindFails p g then Fails 1
-    else if sizeFails p g then Fails 2
-    else if ltb (entryIn column p g) (spanOf p) then Fails 3
-    else if uniformLoadFails p g then Fails 4
-    else Passes
+    firstFailure (kindFails p g) (sizeFails p g) (ltb (entryIn column p g) (spanOf p)) (uniformLoadFails p g)
 
 pub record VerdictLaws (p : Pane) (g : Glass) : Type 0 where
   -- a verdict that fails names the first clause that does, and one that passes says that none does

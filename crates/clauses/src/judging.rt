@@ -1,8 +1,8 @@
 // The verdict of a pane and a glass held as values: specs/Verdict.antt.
 use crate::kind::is_barred;
-use crate::size::is_too_small;
 use crate::tables::ClauseTables;
 use crate::tables::clause_tables;
+use cut_size::is_too_small;
 use job_glass::Glass;
 use job_pane::Pane;
 use point_load::PointLoad;

@@ -5,7 +5,6 @@
 mod judging;
 mod kind;
 mod question;
-mod size;
 mod tables;
 
 use causes::Cause;

@@ -4,6 +4,7 @@ use causes::number_of;
 use clauses::Ruling;
 use clauses::Verdict;
 use job_tool::say;
+use job_tool::say_number;
 
 // Why the glass may not be used; nothing where it may.
 pub(crate) fn explain(answer: Ruling) {
@@ -20,7 +21,7 @@ fn explain_refusal(cause: Cause) {
     match cause {
         Cause::NoPane | Cause::NoGlass => {
             say(b"number ");
-            job_tool::say_number(number_of(cause) as u64);
+            say_number(number_of(cause) as u64);
             say(b": ");
             job_tool::say_cause(cause);
             say(b"\n");
@@ -36,9 +37,7 @@ fn explain_clause(clause: u32) {
         1 => say(
             b"clause 1, kind: the pane's highest part is 3000 mm or more above the floor, where toughened glass must be laminated; take a laminated glass\n",
         ),
-        2 => say(
-            b"clause 2, size: the pane does not lie within the sheet, neither upright nor turned; take a larger sheet\n",
-        ),
+        2 => explain_size(),
         3 => say(
             b"clause 3, point load: the span is too long for this kind and thickness to bear a person's weight; take thicker or stronger glass, or divide the pane\n",
         ),
@@ -46,6 +45,28 @@ fn explain_clause(clause: u32) {
             b"clause 4, uniform load: the span is too long for the wind and the glass's own weight; take thicker or stronger glass, or divide the pane\n",
         ),
     }
+}
+
+fn explain_size() {
+    say(
+        b"clause 2, size: upright or turned, each side of the sheet must exceed the pane's sight size by two edge covers or more (",
+    );
+    say_excess(6);
+    say(b", ");
+    say_excess(8);
+    say(b", ");
+    say_excess(10);
+    say(b", ");
+    say_excess(12);
+    say(b"), and this sheet does not; take a larger sheet, or a thinner glass\n");
+}
+
+// By how much a sheet of this thickness must exceed the sight size.
+fn say_excess(thick: u32) {
+    say_number(2 * cut_size::edge_cover(thick) as u64);
+    say(b" mm in ");
+    say_number(thick as u64);
+    say(b" mm glass");
 }
 
 pub(crate) fn say_usage() {

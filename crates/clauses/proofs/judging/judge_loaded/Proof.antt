@@ -3,9 +3,9 @@
 use borrow.Author.Needs.{needs}
 use mathlib.Core.Path.{_≡_, sym, _∙_}
 use mathlib.Core.Bool.{false}
+use Rattle.cut_size.specs.Size.{sizeFails}
 use Rattle.point_load.specs.PointLoad.{pointLoadFails}
 use Rattle.clauses.specs.Kind.{kindFails}
-use Rattle.clauses.specs.Size.{sizeFails}
 use Rattle.clauses.proofs.Verdicts.{fails-1, fails-2, fails-3, fails-4, passes, column-of, uniform-of, wide-is, overloaded-is}
 use Rattle.clauses.proofs.judging.judge_loaded.Statement.{statement}
 use Rattle.clauses.proofs.judging.judge_loaded.Tie as tie
