@@ -1,9 +1,9 @@
 """Writes the vectors of judge_job: the job files in data/, the questions in args and their answers in stdout.
 
-Run `python3 generate.py`. Each answer is stated here from document 01, "The four clauses", and document 02, 2026-01: a pane and
-a glass are made so that the clause named is the first against them, or none is. Nothing is written where clauses.py, a second
-reading of the papers, says otherwise, or where reader.py, the second reader of check_job's vectors, reads a file otherwise.
-Ribbons are panes with four edges that are more than three times as long as wide, along w or along h.
+Run `python3 generate.py`. Each answer is stated here from document 01, "The four clauses", and document 02, 2026-01 and
+2026-02: a pane and a glass are made so that the clause named is the first against them, or none is. Nothing is written where
+clauses.py, a second reading of the papers, says otherwise, or where reader.py, the second reader of check_job's vectors, reads
+a file otherwise. Ribbons are panes with four edges that are more than three times as long as wide, along w or along h.
 """
 import itertools
 import math
@@ -24,6 +24,9 @@ COLUMNS = ("AR=1", "AR=2", "AR=3", "two")
 MOST = 99999
 # the widest ribbon: 3 times 1667 is over 5000, the longest side of a pane
 WIDEST = 1666
+
+# How much longer each side of the cut size is than that of the sight size, by thickness: two edge covers.
+TWO_COVERS = {6: 12, 8: 16, 10: 16, 12: 18}
 
 # Tables 6.2 to 6.5 by column. The twelve spans are those of 0.5, 1.1 and 1.8 kN, each for 6, 8, 10 and 12 mm.
 SPANS = {
@@ -72,6 +75,11 @@ def pane(edges=4, angle=45, awning=0, top=2500, w=200, h=200, down=0, up=0):
 
 def glass(kind=3, thick=10, w=9999, h=9999, two=MOST, four=MOST, stock=1):
     return clauses.Glass(kind, thick, w, h, two, four, stock)
+
+
+def covering(it, kind=3, thick=10, **numbers):
+    """A glass whose sheet is the cut size of this pane."""
+    return glass(kind, thick, it.w + TWO_COVERS[thick], it.h + TWO_COVERS[thick], **numbers)
 
 
 def lines(letter, entries):
@@ -277,26 +285,26 @@ def kinds():
             ask("kind", 1 if kind == 4 else 0, pane(angle=angle, awning=awning, top=3000), glass(kind, 12))
 
 
-# sheets for a pane of 300 by 500, and whether it lies within
+# sheets of 10 mm for a pane of 300 by 500, and whether its cut size of 316 by 516 lies within
 SHEETS = [
-    (300, 500, True), (500, 300, True), (301, 501, True), (500, 500, True), (300, 9999, True), (9999, 300, True),
-    (299, 500, False), (300, 499, False), (500, 299, False), (499, 300, False), (499, 499, False), (299, 9999, False),
-    (9999, 299, False), (299, 501, False), (501, 299, False), (301, 499, False), (499, 301, False), (1, 1, False),
-    (300, 300, False), (499, 9999, True), (9999, 499, True), (400, 400, False),
+    (316, 516, True), (516, 316, True), (317, 517, True), (516, 516, True), (316, 9999, True), (9999, 316, True),
+    (315, 516, False), (316, 515, False), (516, 315, False), (515, 316, False), (515, 515, False), (315, 9999, False),
+    (9999, 315, False), (315, 517, False), (517, 315, False), (317, 515, False), (515, 317, False), (1, 1, False),
+    (316, 316, False), (515, 9999, True), (9999, 515, True), (416, 416, False),
 ]
 
 
 def sizes():
-    """Clause 2, upright and turned; the sheet may be turned with two edges too."""
+    """Clause 2 in 10 mm, upright and turned; the sheet may be turned with two edges too."""
     for edges in 2, 4:
         for w, h, is_within in SHEETS:
             ask("size", 0 if is_within else 2, pane(edges, w=300, h=500), glass(w=w, h=h))
             ask("size", 0 if is_within else 2, pane(edges, w=500, h=300), glass(w=w, h=h))
-        for w, h, verdict in (400, 400, 0), (399, 400, 2), (400, 399, 2), (399, 399, 2), (399, 9999, 2), (9999, 399, 2):
+        for w, h, verdict in (416, 416, 0), (415, 416, 2), (416, 415, 2), (415, 415, 2), (415, 9999, 2), (9999, 415, 2):
             ask("size-equal", verdict, pane(edges, w=400, h=400), glass(w=w, h=h))
-        for w, h in (1, 1), (1, 9999), (9999, 1), (9999, 9999):
+        for w, h in (17, 17), (17, 9999), (9999, 17), (9999, 9999):
             ask("size-least", 0, pane(edges, w=1, h=1), glass(w=w, h=h))
-    for w, h, verdict in (1667, 5000, 0), (5000, 1667, 0), (1666, 5000, 2), (1667, 4999, 2), (4999, 1667, 2), (5000, 1666, 2):
+    for w, h, verdict in (1683, 5016, 0), (5016, 1683, 0), (1682, 5016, 2), (1683, 5015, 2), (5015, 1683, 2), (5016, 1682, 2):
         ask("size-most", verdict, pane(w=1667, h=5000), glass(w=w, h=h))
         ask("size-most", verdict, pane(w=5000, h=1667), glass(w=w, h=h))
 
@@ -334,10 +342,10 @@ def root_tables():
             yield span, pressure, constant + 1 if apart > 0 else constant
 
 
-def root(group, least, it, thick):
+def root(group, least, it, thick, **sheet):
     """A pane that this constant for its edges bears, and one below it does not. The other constant would turn each answer."""
-    ask(group, 0, it, by_edges(it.edges, least, 1, thick=thick))
-    ask(group, 4, it, by_edges(it.edges, least - 1, MOST, thick=thick))
+    ask(group, 0, it, by_edges(it.edges, least, 1, thick=thick, **sheet))
+    ask(group, 4, it, by_edges(it.edges, least - 1, MOST, thick=thick, **sheet))
 
 
 def roots():
@@ -353,18 +361,20 @@ def first_of(*failing):
 
 
 def orders():
-    """Every set of clauses that fail together: the first is named. Clause 1 fails by the top, 2 by the sheet, 3 by the
-    thickness and 4 by the constant."""
+    """Every set of clauses that fail together: the first is named. Clause 1 fails by the top, 2 by a sheet that lacks a
+    millimetre, 3 by the thickness and 4 by the constant."""
     for edges, awning in (4, 1), (2, 0):
-        for top, side, thick, constant in itertools.product((2999, 3000), (1000, 999), (8, 6), (MOST, 1)):
+        for top, lack, thick, constant in itertools.product((2999, 3000), (0, 1), (8, 6), (MOST, 1)):
             it = pane(edges, awning=awning, w=1000, h=1000, top=top)
+            side = 1000 + TWO_COVERS[thick] - lack
             sheet = by_edges(edges, constant, MOST, kind=4, thick=thick, w=side, h=side)
-            ask(f"order-{edges}", first_of(top == 3000, side == 999, thick == 6, constant == 1), it, sheet)
+            ask(f"order-{edges}", first_of(top == 3000, lack == 1, thick == 6, constant == 1), it, sheet)
     # laminated glass, against which clause 1 never stands
-    for side, thick, constant in itertools.product((1000, 999), (12, 8), (MOST, 1)):
+    for lack, thick, constant in itertools.product((0, 1), (12, 8), (MOST, 1)):
         it = pane(angle=20, top=9000, w=1000, h=1000)
+        side = 1000 + TWO_COVERS[thick] - lack
         sheet = by_edges(4, constant, MOST, kind=1, thick=thick, w=side, h=side)
-        ask("order-laminated", first_of(False, side == 999, thick == 8, constant == 1), it, sheet)
+        ask("order-laminated", first_of(False, lack == 1, thick == 8, constant == 1), it, sheet)
 
 
 def winds():
@@ -420,10 +430,10 @@ def limits():
     # K*K is 0 but for a multiple of 2 to the 32, or little more
     for constant in 65536, 65537, 80265, 92682, 92683, 98304, MOST:
         ask("limits", 0, pane(w=2000, h=2000, angle=60, down=44), glass(thick=12, two=1, four=constant))
-    # the smallest pane on the smallest sheet: P is 57
+    # the smallest pane on the smallest sheet for it: P is 57
     small = pane(4, 0, 0, 0, 1, 1, 0, 0)
     for constant, verdict in (1, 4), (7, 4), (8, 0):
-        ask("limits", verdict, small, glass(3, 6, 1, 1, MOST if verdict else 1, constant, 0))
+        ask("limits", verdict, small, glass(3, 6, 13, 13, MOST if verdict else 1, constant, 0))
     # high wind alone is no cause: assumption (f) of 6.5.4 sets no further limit
     for down, up in (120, 0), (121, 0), (1000, 0), (0, 121), (0, 1000), (1000, 1000):
         ask("limits", 0, pane(down=down, up=up), glass())
@@ -509,22 +519,22 @@ def ribbon_live_loads():
         ask("ribbon-live-load", 3, pane(angle=angle, awning=1, w=1, h=4), glass(2, 10))
 
 
-# sheets for a ribbon of 500 by 2500, and whether it lies within
+# sheets of 10 mm for a ribbon of 500 by 2500, and whether its cut size of 516 by 2516 lies within
 RIBBON_SHEETS = [
-    (500, 2500, True), (2500, 500, True), (501, 2501, True), (2500, 2500, True), (500, 9999, True), (9999, 500, True),
-    (499, 2500, False), (500, 2499, False), (2500, 499, False), (2499, 500, False), (2499, 2499, False), (499, 9999, False),
-    (9999, 499, False), (501, 2499, False), (2499, 501, False), (500, 500, False), (1500, 1500, False), (2499, 9999, True),
+    (516, 2516, True), (2516, 516, True), (517, 2517, True), (2516, 2516, True), (516, 9999, True), (9999, 516, True),
+    (515, 2516, False), (516, 2515, False), (2516, 515, False), (2515, 516, False), (2515, 2515, False), (515, 9999, False),
+    (9999, 515, False), (517, 2515, False), (2515, 517, False), (516, 516, False), (1516, 1516, False), (2515, 9999, True),
 ]
 
 
 def ribbon_sizes():
-    """Clause 2 of ribbons, upright and turned."""
+    """Clause 2 of ribbons in 10 mm, upright and turned."""
     for w, h, is_within in RIBBON_SHEETS:
         ask("ribbon-size", 0 if is_within else 2, pane(w=500, h=2500), glass(w=w, h=h))
         ask("ribbon-size", 0 if is_within else 2, pane(w=2500, h=500), glass(w=w, h=h))
-    for span in 1, WIDEST:
+    for span, side in (1, 17), (WIDEST, 1682):
         for it in pane(w=span, h=5000), pane(w=5000, h=span):
-            for w, h, verdict in (span, 5000, 0), (5000, span, 0), (span, 4999, 2), (4999, span, 2):
+            for w, h, verdict in (side, 5016, 0), (5016, side, 0), (side, 5015, 2), (5015, side, 2):
                 ask("ribbon-size-most", verdict, it, glass(w=w, h=h))
 
 
@@ -567,14 +577,16 @@ def ribbon_orders():
     """Every set of clauses that fail together for ribbons, as in orders. With AR=3 neither thickness would fail."""
     for w, h in (500, 2500), (2500, 500):
         # monolithic glass under 1.8 kN spans 300 with two edges at 10 mm, and 700 at 12
-        for top, side, thick, constant in itertools.product((2999, 3000), (2500, 2499), (12, 10), (MOST, 1)):
-            sheet = by_edges(4, constant, MOST, kind=4, thick=thick, w=side, h=500)
-            verdict = first_of(top == 3000, side == 2499, thick == 10, constant == 1)
+        for top, lack, thick, constant in itertools.product((2999, 3000), (0, 1), (12, 10), (MOST, 1)):
+            covers = TWO_COVERS[thick]
+            sheet = by_edges(4, constant, MOST, kind=4, thick=thick, w=2500 + covers - lack, h=500 + covers)
+            verdict = first_of(top == 3000, lack == 1, thick == 10, constant == 1)
             ask("ribbon-order", verdict, pane(awning=1, top=top, w=w, h=h), sheet)
         # laminated annealed glass under 0.5 kN spans 250 at 10 mm, and 700 at 12
-        for side, thick, constant in itertools.product((2500, 2499), (12, 10), (MOST, 1)):
-            sheet = by_edges(4, constant, MOST, kind=1, thick=thick, w=500, h=side)
-            ask("ribbon-order", first_of(False, side == 2499, thick == 10, constant == 1), pane(top=9000, w=w, h=h), sheet)
+        for lack, thick, constant in itertools.product((0, 1), (12, 10), (MOST, 1)):
+            covers = TWO_COVERS[thick]
+            sheet = by_edges(4, constant, MOST, kind=1, thick=thick, w=500 + covers, h=2500 + covers - lack)
+            ask("ribbon-order", first_of(False, lack == 1, thick == 10, constant == 1), pane(top=9000, w=w, h=h), sheet)
 
 
 # the kinds and thicknesses with a two-edge span under 1.8 kN
@@ -593,13 +605,187 @@ def ribbon_limits():
     # 6 mm weighs 40 at 45 degrees: a span of 1 needs a constant of 7
     for w, h in (1, 4), (4, 1), (1, 5000), (5000, 1):
         for constant, verdict in (1, 4), (6, 4), (7, 0), (MOST, 0):
-            sheet = glass(3, 6, w, h, MOST if verdict else 1, constant, 0)
+            sheet = glass(3, 6, w + 12, h + 12, MOST if verdict else 1, constant, 0)
             ask("ribbon-limits", verdict, pane(4, 45, 0, 0, w, h, 0, 0), sheet)
     # P is 1114 under the highest wind, as in limits: a span of 1666 needs a constant of 55606
     for w, h in (1666, 4999), (4999, 1666), (1666, 5000), (5000, 1666):
         for constant, verdict in (MOST, 0), (55606, 0), (55605, 4), (1, 4):
             sheet = glass(thick=12, two=MOST if verdict else 1, four=constant)
             ask("ribbon-limits", verdict, pane(4, 0, 0, 2999, w, h, 1000, 1000), sheet)
+
+
+# the sides of the cut size of a pane of 300 by 500, by thickness
+CUT_SIZES = {6: (312, 512), 8: (316, 516), 10: (316, 516), 12: (318, 518)}
+
+
+def cut_sizes():
+    """Clause 2 in each thickness: sheets that just cover a pane, and sheets that one side alone makes too small, by a
+    millimetre or by two covers. Panes and sheets are upright and turned. With two edges, both sides take the cover too."""
+    for thick, (shorter, longer) in CUT_SIZES.items():
+        for w, h, verdict in (
+            (shorter, longer, 0), (shorter - 1, longer, 2), (shorter, longer - 1, 2), (300, longer, 2), (shorter, 500, 2),
+            (shorter, 9999, 0), (shorter - 1, 9999, 2),
+        ):
+            for edges in 2, 4:
+                for it in pane(edges, w=300, h=500), pane(edges, w=500, h=300):
+                    ask("cut-size", verdict, it, glass(thick=thick, w=w, h=h))
+                    ask("cut-size", verdict, it, glass(thick=thick, w=h, h=w))
+
+
+def cut_size_ways():
+    """By its sight size, a pane of 490 by 480 lies within these sheets both ways. By its cut size it does so one way or not at
+    all: the longer side is then over 500, and the shorter at most 498."""
+    for thick, longer in (6, 502), (8, 506), (10, 506), (12, 508):
+        for w, h, verdict in (longer, 500, 0), (longer - 1, 500, 2), (longer - 1, longer - 1, 2), (500, 500, 2), (490, 490, 2):
+            for edges in 2, 4:
+                for it in pane(edges, w=490, h=480), pane(edges, w=480, h=490):
+                    ask("cut-size-ways", verdict, it, glass(thick=thick, w=w, h=h))
+                    ask("cut-size-ways", verdict, it, glass(thick=thick, w=h, h=w))
+
+
+def cut_size_most():
+    """The largest pane, against which clause 3 stands where the sheet covers it; and 2000 by 5000, which laminated toughened
+    glass spans in every thickness."""
+    for thick, shorter, longer in (6, 2012, 5012), (8, 2016, 5016), (10, 2016, 5016), (12, 2018, 5018):
+        for w, h, verdict in (
+            (longer, longer, 3), (longer - 1, longer, 2), (longer, longer - 1, 2), (longer - 1, longer - 1, 2), (5000, 5000, 2),
+            (longer, 9999, 3), (longer - 1, 9999, 2),
+        ):
+            for edges in 2, 4:
+                ask("cut-size-most", verdict, pane(edges, w=5000, h=5000), glass(thick=thick, w=w, h=h))
+        for w, h, verdict in (shorter, longer, 0), (shorter - 1, longer, 2), (shorter, longer - 1, 2), (2000, 5000, 2):
+            ask("cut-size-most", verdict, pane(w=2000, h=5000), glass(thick=thick, w=w, h=h))
+            ask("cut-size-most", verdict, pane(w=5000, h=2000), glass(thick=thick, w=w, h=h))
+
+
+def cut_size_least():
+    """Sheets smaller than two covers, as large as two covers, and a millimetre larger: these cover a pane of 1 by 1."""
+    for thick, least in (6, 13), (8, 17), (10, 17), (12, 19):
+        for edges in 2, 4:
+            small, other = pane(edges, w=1, h=1), pane(edges, w=200, h=200)
+            for side in 1, 2, 6, 8, 9, 11, 12, 13, 15, 16, 17, 18, 19:
+                sheet = glass(thick=thick, w=side, h=side)
+                ask("cut-size-least", 0 if side >= least else 2, small, sheet)
+                ask("cut-size-least", 2, other, sheet)
+            for w, h in (1, 9999), (least - 1, 9999), (9999, least - 1):
+                ask("cut-size-least", 2, small, glass(thick=thick, w=w, h=h))
+                ask("cut-size-least", 2, other, glass(thick=thick, w=w, h=h))
+
+
+# how much longer the sides of a sheet are than those of a pane, and the thicknesses in which it covers the pane
+COVERED = [
+    (0, ()), (6, ()), (8, ()), (9, ()), (11, ()), (12, (6,)), (13, (6,)), (15, (6,)), (16, (6, 8, 10)), (17, (6, 8, 10)),
+    (18, THICK), (19, THICK),
+]
+
+
+def cut_size_thicknesses():
+    """The same pane and the same sheet in each thickness."""
+    for more, covered in COVERED:
+        for thick in THICK:
+            sheet = glass(thick=thick, w=400 + more, h=450 + more)
+            for edges in 2, 4:
+                for it in pane(edges, w=400, h=450), pane(edges, w=450, h=400):
+                    ask("cut-size-thickness", 0 if thick in covered else 2, it, sheet)
+
+
+def covered_or_not(group, verdict, it, sheet):
+    """A pane with the sheet of its cut size, and with sheets that lack a millimetre, against which clause 2 stands."""
+    ask(group, verdict, it, sheet)
+    ask(group, 2, it, sheet._replace(w=sheet.w - 1))
+    ask(group, 2, it, sheet._replace(h=sheet.h - 1))
+
+
+def cut_size_fields():
+    """Nothing but the sides and the thickness has a say in clause 2. Glass of 12 mm serves a pane of 200 by 240 in every kind
+    and under every live load."""
+    group, it = "cut-size-fields", pane(w=200, h=240)
+    for other in (
+        it, it._replace(edges=2), it._replace(angle=0), it._replace(angle=74), it._replace(awning=1), it._replace(top=0),
+        it._replace(top=2999), it._replace(down=1000, up=1000),
+    ):
+        for kind in KINDS:
+            covered_or_not(group, 0, other, covering(other, kind, 12))
+        for stock in 0, 999:
+            covered_or_not(group, 0, other, covering(other, thick=12, stock=stock))
+        # a span of 200 under P 1080 needs a constant of 6573
+        covered_or_not(group, 0, other, covering(other, thick=12, two=6573, four=6573))
+    # every kind in the other thicknesses
+    for kind, thick in itertools.product(KINDS, (6, 8, 10)):
+        covered_or_not(group, 0, it, covering(it, kind, thick))
+
+
+def cut_size_orders():
+    """Clause 1 stands before clause 2, whatever the sheet; clauses 3 and 4 stand behind it."""
+    group, it = "cut-size-order", pane(w=200, h=240)
+    for w, h in (218, 258), (217, 258), (218, 257), (200, 240), (1, 1):
+        ask(group, 1, it._replace(top=3000), glass(4, 12, w, h))
+    # laminated annealed glass of 12 mm spans 275 on an awning
+    wide = pane(awning=1, w=276, h=300)
+    covered_or_not(group, 3, wide, covering(wide, 1, 12))
+    covered_or_not(group, 4, it, covering(it, thick=12, four=1))
+    # a dash
+    covered_or_not(group, 3, it._replace(awning=1), covering(it, 1, 10))
+
+
+# kind, thickness and live load, and the edges and sides of a pane whose span is the entry: with AR=1, AR=2, AR=3, two edges and
+# as a ribbon
+ENTRIES = [
+    (3, 6, "1.1", 4, 1100, 1100), (2, 6, "0.5", 4, 1500, 3000), (2, 6, "0.5", 4, 1200, 3600), (3, 6, "0.5", 2, 650, 900),
+    (4, 6, "0.5", 4, 700, 2800),
+    (1, 8, "0.5", 4, 1400, 1400), (2, 8, "0.5", 4, 1800, 3600), (2, 8, "0.5", 4, 1600, 4800), (2, 8, "0.5", 2, 800, 700),
+    (4, 8, "1.1", 4, 400, 2000),
+    (1, 10, "1.1", 4, 550, 550), (1, 10, "0.5", 4, 1900, 3800), (1, 10, "0.5", 4, 1700, 4900), (2, 10, "0.5", 2, 1600, 1800),
+    (1, 10, "0.5", 4, 250, 1000),
+    (1, 12, "1.1", 4, 1200, 1200), (1, 12, "1.1", 4, 825, 1650), (2, 12, "0.5", 4, 1950, 4900), (2, 12, "0.5", 2, 1950, 400),
+    (1, 12, "0.5", 4, 700, 4900),
+]
+
+
+def sight_spans():
+    """Clause 3 reads the span off the sight size: panes at the entry, on sheets of their cut size, and panes with both sides a
+    millimetre longer, which read the same column."""
+    for kind, thick, load, edges, w, h in ENTRIES:
+        it, above = [pane(edges, w=w + more, h=h + more, **LOADED[load]) for more in (0, 1)]
+        ask("sight-span", 0, it, covering(it, kind, thick))
+        ask("sight-span", 3, above, covering(above, kind, thick))
+        ask("sight-span", 2, above, covering(it, kind, thick))
+
+
+def sight_uniform_loads():
+    """Clause 4 reads the span off the sight size: 600 under P 100 needs a constant of 6000. Clause 3 allows at least 650."""
+    # at 45 degrees the maximum is 40, 54, 67 and 80
+    for thick, down in (6, 60), (8, 46), (10, 33), (12, 20):
+        for edges, w, h in (2, 600, 900), (2, 600, 500), (4, 600, 600), (4, 900, 600), (4, 600, 1800), (4, 2500, 600):
+            sheet = dict(w=w + TWO_COVERS[thick], h=h + TWO_COVERS[thick])
+            root("sight-uniform-load", 6000, pane(edges, w=w, h=h, down=down), thick, **sheet)
+
+
+# kind, thickness and live load, the shorter side of a pane, and longer sides with their verdicts
+PROPORTIONS = [
+    # AR=1 has 400, 1400, 2000 and 1200, and AR=2 less
+    (1, 6, "0.5", 400, [(400, 0), (401, 3)]), (1, 8, "0.5", 1400, [(1400, 0), (1401, 3)]),
+    (1, 10, "0.5", 2000, [(2000, 0), (2001, 3)]), (1, 12, "1.1", 1200, [(1200, 0), (1201, 3)]),
+    # AR=2 has 1500, 1800, 1900 and 2000, AR=3 has 1200, 1600, 1700 and 1900; the cut sizes of the last are 2 to 1
+    (2, 6, "0.5", 1300, [(2600, 0), (2601, 3), (2612, 3)]), (2, 8, "0.5", 1700, [(3400, 0), (3401, 3), (3416, 3)]),
+    (1, 10, "0.5", 1800, [(3600, 0), (3601, 3), (3616, 3)]), (1, 12, "0.5", 1950, [(3900, 0), (3901, 3), (3918, 3)]),
+    # AR=3 has 2000, 1600, 1700 and 1900, ribbons have 650, 800, 250 and 700; the cut sizes of the last are 3 to 1
+    (3, 6, "0.5", 700, [(2100, 0), (2101, 3), (2124, 3)]), (2, 8, "0.5", 1000, [(3000, 0), (3001, 3), (3032, 3)]),
+    (1, 10, "0.5", 1000, [(3000, 0), (3001, 3), (3032, 3)]), (1, 12, "0.5", 1000, [(3000, 0), (3001, 3), (3036, 3)]),
+    # AR=2 has 275, AR=3 a dash; the cut size of 18 by 54 is 36 by 72
+    (1, 12, "1.8", 18, [(18, 0), (36, 0), (37, 3), (54, 3)]),
+]
+
+
+def sight_proportions():
+    """The proportion is that of the sight size. The cut size is nearer to a square: it would read AR=2 up to two covers beyond
+    2 to 1, and AR=3 up to four covers beyond 3 to 1. Up to 2 to 1, and of a square, it reads the same column."""
+    for kind, thick, load, shorter, sides in PROPORTIONS:
+        for longer, verdict in sides:
+            it = pane(w=shorter, h=longer, **LOADED[load])
+            sheet = covering(it, kind, thick)
+            ask("sight-proportion", verdict, it, sheet)
+            ask("sight-proportion", verdict, it._replace(w=longer, h=shorter), sheet)
 
 
 def paper_job():
@@ -609,14 +795,15 @@ def paper_job():
     run("canopy.job", [2, 7, 1, 7, 7, 2, 2, 1], ["2 7 fails 3", "1 7 passes", "7 2 refused 10 0", "2 1 refused 11 0"])
 
 
-# ids that begin alike, that differ by a multiple of 256 and that stand in no order; pane n fits into the glasses from n on
+# ids that begin alike, that differ by a multiple of 256 and that stand in no order; pane n fits into the glasses from n on, the
+# first of which have its cut size
 PANE_IDS = (77, 7, 9999, 1, 333, 589, 5)
 GLASS_IDS = (5, 66, 1, 261, 7, 9999, 777)
 
 
 def every_pair():
     panes = [(id, pane(w=100 * n, h=100 * n)) for n, id in enumerate(PANE_IDS, 1)]
-    glasses = [(id, glass(w=100 * n, h=100 * n)) for n, id in enumerate(GLASS_IDS, 1)]
+    glasses = [(id, glass(w=100 * n + 16, h=100 * n + 16)) for n, id in enumerate(GLASS_IDS, 1)]
     put("ids.job", "accepted 7 7", file_of("ids\n", glasses, panes))
     answers = {
         (p, g): f"{p} {g} {spelled(0 if n <= m else 2)}"
@@ -665,7 +852,7 @@ def empty_parts():
 def most_lines():
     """64 glasses and 256 panes: glass n serves the panes up to 4 times n."""
     panes = [(9000 + n, pane(w=n, h=n)) for n in range(1, 257)]
-    glasses = [(9000 + n, glass(w=4 * n, h=4 * n)) for n in range(1, 65)]
+    glasses = [(9000 + n, glass(w=4 * n + 16, h=4 * n + 16)) for n in range(1, 65)]
     put("most-lines.job", "accepted 64 256", file_of("most lines\n", glasses, panes))
     asked = [(1, 1, 0), (1, 64, 0), (256, 1, 2)]
     for n in range(1, 65):
@@ -736,6 +923,8 @@ def write():
 for group in (
     spans, columns, dead_loads, kinds, sizes, roots, orders, winds, live_loads, limits, stocks, ribbon_spans, ribbon_columns,
     ribbon_sides, ribbon_live_loads, ribbon_sizes, ribbon_roots, ribbon_winds, ribbon_constants, ribbon_orders, ribbon_limits,
+    cut_sizes, cut_size_ways, cut_size_most, cut_size_least, cut_size_thicknesses, cut_size_fields, cut_size_orders,
+    sight_spans, sight_uniform_loads, sight_proportions,
 ):
     group()
 paper_job()

@@ -1,9 +1,9 @@
 """Writes the vectors of place_job: the job files in data/, their names in args and what is due of each in stdout.
 
 Run `python3 generate.py`. Each job is made so that a full placing of it exists, or a short group, and that is stated here from
-document 01 and document 02, 2026-01. Nothing is written where placing.py, which finds the one or the other by the verdicts of
-judge_job's clauses.py, says otherwise, or where reader.py of check_job's vectors reads a file otherwise. Ribbons are panes with
-four edges that are more than three times as long as wide, along w or along h.
+document 01 and document 02, 2026-01 and 2026-02. Nothing is written where placing.py, which finds the one or the other by the
+verdicts of judge_job's clauses.py, says otherwise, or where reader.py of check_job's vectors reads a file otherwise. Ribbons
+are panes with four edges that are more than three times as long as wide, along w or along h.
 """
 import pathlib
 import random
@@ -76,8 +76,9 @@ def job(name, due, glasses, panes, glass_ids=None, pane_ids=None, chain=None):
 
 
 def sheet(at, stock=1):
-    """The sheets at 0 to 64 grow wider and less high, so that a pane can be made for any run of them."""
-    return glass(stock, w=500 + 5 * at, h=1500 - 5 * at)
+    """The sheets at 0 to 64 grow wider and less high, so that a pane can be made for any run of them. They are of 10 mm, and
+    have 16 mm for its edge covers."""
+    return glass(stock, w=516 + 5 * at, h=1516 - 5 * at)
 
 
 def run(first, last):
@@ -130,7 +131,7 @@ def first_fits():
     the wind; also where the smallest sheet, or the pane that the fewest sheets suit, comes first."""
     large, small = glass(w=1500, h=1500), glass(w=1000, h=1000)
     job("yield-by-size", "full", [large, small], [pane(w=900, h=900), pane(w=1200, h=1200)], chain=2)
-    job("yield-by-turning", "full", [glass(w=2000, h=800), small], [pane(w=700, h=900), pane(w=800, h=2000)], chain=2)
+    job("yield-by-turning", "full", [glass(w=2016, h=816), small], [pane(w=700, h=900), pane(w=800, h=2000)], chain=2)
     job("yield-by-kind", "full", [glass(kind=3), glass(kind=4)], [pane(top=2999), pane(top=3000)], chain=2)
     job("yield-by-edges", "full", [glass(), glass(two=1)], [pane(), pane(edges=2)], chain=2)
     # 200 mm under P 567, which is 500 and a dead load of 67, need a constant of 4763
@@ -158,7 +159,7 @@ def shortages():
 def clauses_alone():
     """A rack of which each clause alone keeps a pane away."""
     sheet = glass(9, kind=4, two=4000)
-    panes = [pane(top=3000), pane(w=1300, h=3601), pane(edges=2, awning=1, w=301), pane(edges=2, w=500), pane()]
+    panes = [pane(top=3000), pane(w=1300, h=3585), pane(edges=2, awning=1, w=301), pane(edges=2, w=500), pane()]
     failing = [[number for number, fails in enumerate(clauses.CLAUSES, 1) if fails(it, sheet)] for it in panes]
     if failing != [[1], [2], [3], [4], []]:
         raise SystemExit(f"no-glass-by-each-clause: fails by {failing}")
@@ -169,16 +170,16 @@ def is_ribbon(it):
     return it.edges == 4 and max(it.w, it.h) > 3 * min(it.w, it.h)
 
 
-def cut(it):
-    """A ribbon cut to 3 times its width, which is then none and reads AR=3; any other pane as it is."""
+def shortened(it):
+    """A ribbon shortened to 3 times its width, which is then none and reads AR=3; any other pane as it is."""
     longest = 3 * min(it.w, it.h)
     return it._replace(w=min(it.w, longest), h=min(it.h, longest)) if is_ribbon(it) else it
 
 
 def short_by_ribbons(name, glasses, panes):
-    """A job that is short by its ribbons, and full once they are cut."""
+    """A job that is short by its ribbons, and full once they are shortened."""
     job(name, "short", glasses, panes)
-    job(f"{name}-cut", "full", glasses, [cut(it) for it in panes])
+    job(f"{name}-cut", "full", glasses, [shortened(it) for it in panes])
 
 
 def ribbon_yields():
@@ -194,22 +195,26 @@ def ribbon_yields():
     job("ribbons-yield-3-sheets", "full", [thick._replace(stock=3), thin._replace(stock=3)], panes + ribbons, chain=2)
     # the narrow ribbon may have either, and the two-edge pane behind it needs the 12 mm
     job("ribbon-moves-over", "full", [thick, thin], [pane(w=1000, h=250), pane(2, w=700)], chain=2)
-    # both ribbons lie within the first sheet, and the second of them within no other
-    large, small = glass(w=1200, h=4000), glass(w=500, h=2500)
+    # the first sheet covers both ribbons, and no other sheet covers the second
+    large, small = glass(w=1200, h=4000), glass(w=516, h=2516)
     job("ribbon-yield-by-size", "full", [large, small], [pane(w=2500, h=500), pane(w=600, h=3900)], chain=2)
     # 200 mm under P 567 need a constant of 4763, as in yield-by-wind; by "two", both ribbons would need the second glass
     first, second = glass(two=1, four=4763), glass(four=4762)
     job("ribbon-yield-by-wind", "full", [first, second], [pane(w=200, h=1000), pane(w=1000, h=200, down=500)], chain=2)
 
 
-# kind and thickness, two-edge span under 0.5 kN and length of five sheets: the spans grow and the lengths fall
-RIBBON_RACK = [(1, 10, 250, 5000), (3, 6, 650, 4500), (1, 12, 700, 4000), (2, 8, 800, 3500), (2, 10, 1600, 3000)]
+# kind and thickness of five sheets, their two-edge span under 0.5 kN, the length of the longest ribbon that they cover and
+# their own: the spans grow and the lengths fall
+RIBBON_RACK = [
+    (1, 10, 250, 5000, 5016), (3, 6, 650, 4500, 4512), (1, 12, 700, 4000, 4018), (2, 8, 800, 3500, 3516),
+    (2, 10, 1600, 3000, 3016),
+]
 
 
 def ribbon_chains():
-    """Ribbon n is as wide as sheet n can span and as long as sheet n+1, and suits these two. The last one is as long as the
-    first sheet, and suits it alone: all the others move over."""
-    glasses = [glass(1, kind, thick, 2000, length) for kind, thick, _, length in RIBBON_RACK]
+    """Ribbon n is as wide as sheet n can span and as long as sheet n+1 can cover, and suits these two. The last one is as long
+    as the first sheet can cover, and suits it alone: all the others move over."""
+    glasses = [glass(1, kind, thick, 2000, length) for kind, thick, _, _, length in RIBBON_RACK]
     sides = [(this[2], following[3]) for this, following in zip(RIBBON_RACK, RIBBON_RACK[1:])] + [(250, 5000)]
     panes = [pane(w=w, h=h) if place % 2 else pane(w=h, h=w) for place, (w, h) in enumerate(sides)]
     if rows_of(glasses, panes) != [[0, 1], [1, 2], [2, 3], [3, 4], [0]]:
@@ -283,7 +288,7 @@ def random_runs():
         given = [dice.randrange(64) for _ in range(256)]
         intervals = [(max(at - dice.randrange(3), 0), min(at + dice.randrange(3), 63)) for at in given]
         stocks, order = [given.count(at) for at in range(64)], dice.sample(range(64), 64)
-        ids = dict(glass_ids=dice.sample(range(1, 10000), 64), pane_ids=dice.sample(range(1, 10000), 256))
+        ids = random_ids(dice, 64, 256)
         runs(f"runs-{seed}", "full", stocks, intervals, order, **ids)
         # three sheets change places: their run lacks some, and others have them
         full = [at for at in range(64) if stocks[at] >= 3]
@@ -294,35 +299,43 @@ def random_runs():
         runs(f"runs-{seed}-short", "short", stocks, intervals, order, **ids)
 
 
+def random_roof(name, dice, glass_count, pane_count, most, sides):
+    """A rack with up to `most` sheets of a glass and a roof of panes with these sides, as a glazier has them, by all four
+    clauses: each pane has a passing glass in stock, there are more sheets than panes, and first fit leaves a pane with none."""
+    glasses = [
+        glass(dice.randrange(most + 1), dice.randrange(1, 5), dice.choice((6, 8, 10, 12)), dice.choice((1200, 1800, 2400)),
+              dice.choice((1800, 2400, 3600)), dice.randrange(12000, 30000), dice.randrange(15000, 34000))
+        for _ in range(glass_count)
+    ]
+    panes = []
+    while len(panes) < pane_count:
+        it = pane(dice.choice((2, 4, 4, 4)), dice.choice((5, 15, 29, 30, 45, 60)), int(dice.random() < 0.05),
+                  dice.choice((2400, 2999, 3000, 4500)), dice.choice(sides), dice.choice(sides),
+                  dice.randrange(0, 150, 5), dice.randrange(0, 250, 5))
+        if any(glasses[place].stock for place in rows_of(glasses, [it])[0]):
+            panes.append(it)
+    rack = [it.stock for it in glasses]
+    if sum(rack) <= pane_count or None not in placing.first_fit(rack, rows_of(glasses, panes)):
+        raise SystemExit(f"{name}: too easy")
+    return glasses, panes
+
+
+def random_ids(dice, glass_count, pane_count):
+    return dict(glass_ids=dice.sample(range(1, 10000), glass_count), pane_ids=dice.sample(range(1, 10000), pane_count))
+
+
 def random_roofs():
-    """Roofs and racks as a glazier has them, by all four clauses: each pane has a passing glass in stock, there are more sheets
-    than panes, first fit leaves a pane with none, and there are ribbons both with w longer and with h longer. The short roofs
-    would be full if their ribbons were cut."""
+    """Roofs with ribbons, both with w longer and with h longer. The short roofs would be full if their ribbons were shortened."""
     for name, due, seed, glass_count, pane_count, most in (
         ("roof-1", "full", 13, 24, 48, 4), ("roof-1-short", "short", 68, 24, 48, 4),
         ("roof-2", "full", 5, 64, 256, 9), ("roof-2-short", "short", 87, 64, 256, 9),
     ):
         dice = random.Random(seed)
-        glasses = [
-            glass(dice.randrange(most + 1), dice.randrange(1, 5), dice.choice((6, 8, 10, 12)), dice.choice((1200, 1800, 2400)),
-                  dice.choice((1800, 2400, 3600)), dice.randrange(12000, 30000), dice.randrange(15000, 34000))
-            for _ in range(glass_count)
-        ]
-        panes = []
-        while len(panes) < pane_count:
-            it = pane(dice.choice((2, 4, 4, 4)), dice.choice((5, 15, 29, 30, 45, 60)), int(dice.random() < 0.05),
-                      dice.choice((2400, 2999, 3000, 4500)), dice.randrange(300, 1600, 50), dice.randrange(300, 1600, 50),
-                      dice.randrange(0, 150, 5), dice.randrange(0, 250, 5))
-            if any(glasses[place].stock for place in rows_of(glasses, [it])[0]):
-                panes.append(it)
-        rack = [it.stock for it in glasses]
-        if sum(rack) <= pane_count or None not in placing.first_fit(rack, rows_of(glasses, panes)):
-            raise SystemExit(f"{name}: too easy")
+        glasses, panes = random_roof(name, dice, glass_count, pane_count, most, range(300, 1600, 50))
         if {it.w > it.h for it in panes if is_ribbon(it)} != {False, True}:
             raise SystemExit(f"{name}: not ribbons of both ways")
-        hold(f"{name}, cut", "full", glasses, [cut(it) for it in panes])
-        ids = dict(glass_ids=dice.sample(range(1, 10000), glass_count), pane_ids=dice.sample(range(1, 10000), pane_count))
-        job(name, due, glasses, panes, **ids)
+        hold(f"{name}, shortened", "full", glasses, [shortened(it) for it in panes])
+        job(name, due, glasses, panes, **random_ids(dice, glass_count, pane_count))
 
 
 def ids():
@@ -360,6 +373,55 @@ def refused_files():
     job("ribbon-as-third-pane-on-three-sheets", "full", [glass(), glass(2)], roof)
 
 
+# thickness and sides of sheets that just cover a pane of 600 by 900
+COVERING = [(6, 612, 912), (8, 616, 916), (10, 616, 916), (12, 618, 918)]
+
+
+def cover_shortages():
+    """Four panes on one sheet of each thickness: short if the sheets have the sight size, or if one of them lacks a millimetre,
+    and full if each has the cut size."""
+    panes = [pane(w=600, h=900), pane(w=900, h=600), pane(2, w=600, h=900), pane(2, w=600, h=900, top=9000)]
+    rack = [glass(thick=thick, w=w, h=h) for thick, w, h in COVERING]
+    job("covers", "full", rack, panes)
+    job("covers-sight-size", "short", [it._replace(w=600, h=900) for it in rack], panes)
+    for place, it in enumerate(rack):
+        for side, less in ("w", it._replace(w=it.w - 1)), ("h", it._replace(h=it.h - 1)):
+            job(f"covers-{it.thick}-{side}-lacks", "short", rack[:place] + [less] + rack[place + 1:], panes)
+    # a sheet of 6 mm covers the pane and does not span it; one of 12 mm spans it, and lacks a millimetre to cover it
+    apart = [glass(kind=1, thick=thick, w=917, h=1417) for thick in (6, 12)]
+    job("cover-or-span", "short", apart, [pane(w=900, h=1400)])
+    job("cover-and-span", "full", [it._replace(w=918, h=1418) for it in apart], [pane(w=900, h=1400)])
+
+
+def cover_yields():
+    """A sheet of 1000 by 1500 covers one pane in every thickness, one up to 10 mm and one in 6 mm alone. The full roofs can be
+    placed in one way."""
+    every, up_to_10, only_6 = pane(w=982, h=1482), pane(w=1484, h=984), pane(w=988, h=1488)
+    thin, middle, thick = glass(thick=6, w=1000, h=1500), glass(thick=10, w=1000, h=1500), glass(thick=12, w=1000, h=1500)
+    if rows_of([thin, middle, thick], [every, up_to_10, only_6]) != [[0, 1, 2], [0, 1], [0]]:
+        raise SystemExit("covers: the panes do not suit the sheets that were meant")
+    job("cover-not-the-first-glass", "full", [thick, thin], [only_6, every])
+    job("cover-yield", "full", [thin, thick], [every, only_6], chain=2)
+    job("cover-yield-twice", "full", [thin, middle, thick], [up_to_10, every, only_6], chain=3)
+    # sheets enough, but one too few of 6 mm, or of 6 and 10 mm
+    job("cover-yield-short", "short", [thin, thick._replace(stock=2)], [every, only_6, only_6])
+    job("cover-yield-twice-short", "short", [thin, middle, thick._replace(stock=9)], [up_to_10, every, only_6, up_to_10])
+
+
+def cover_roofs():
+    """Roofs with many sides that a sheet of 1200 or 1800 just covers in one thickness or another. They are short, and full once
+    each sheet is larger by its edge covers."""
+    for name, seed, glass_count, pane_count, most in ("roof-3", 63, 24, 48, 4), ("roof-4", 11, 64, 256, 9):
+        dice = random.Random(seed)
+        sides = (600, 900, 1182, 1184, 1188, 1782, 1784, 1788)
+        glasses, panes = random_roof(name, dice, glass_count, pane_count, most, sides)
+        ids = random_ids(dice, glass_count, pane_count)
+        job(f"{name}-short", "short", glasses, panes, **ids)
+        covers = [2 * clauses.EDGE_COVER[it.thick] for it in glasses]
+        larger = [it._replace(w=it.w + more, h=it.h + more) for it, more in zip(glasses, covers)]
+        job(name, "full", larger, panes, **ids)
+
+
 def write():
     shutil.rmtree(CRATE / "data", ignore_errors=True)
     (CRATE / "data").mkdir()
@@ -374,7 +436,7 @@ def write():
 
 for group in (
     paper_jobs, chains, first_fits, shortages, clauses_alone, empty_parts, largest, random_runs, random_roofs, ids, refused_files,
-    ribbon_yields, ribbon_chains, ribbon_columns, ribbon_constants,
+    ribbon_yields, ribbon_chains, ribbon_columns, ribbon_constants, cover_shortages, cover_yields, cover_roofs,
 ):
     group()
 write()
