@@ -1,10 +1,12 @@
-//! The verdict on a pane and a glass: document 01, "The four clauses", and for ribbons document 02,
-//! 2026-01.
+//! The verdict on a pane and a glass: document 01, "The four clauses", and document 02, 2026-01 for
+//! ribbons and 2026-02 for clause 2.
 
 use crate::job::{Glass, Pane};
 use crate::reader::read;
 use crate::refusal::{Refusal, NO_GLASS, NO_PANE};
-use crate::tables::{DEGREES_A_ROW, MAXIMUM_DEAD_LOADS, MINIMUM_DEAD_LOADS, SPANS, TWO_EDGE};
+use crate::tables::{
+    DEGREES_A_ROW, EDGE_COVERS, MAXIMUM_DEAD_LOADS, MINIMUM_DEAD_LOADS, SPANS, TWO_EDGE,
+};
 
 pub const PASSES: usize = 0;
 pub const FAILS_KIND: usize = 1;
@@ -20,8 +22,8 @@ pub const THICKNESSES: [u8; 4] = [6, 8, 10, 12];
 pub struct Loads {
     /// Clause 1: monolithic toughened glass is too high above the floor.
     laminated_only: bool,
-    w: u16,
-    h: u16,
+    /// Clause 2: the cut size, by thickness.
+    cut_sizes: [(u16, u16); 4],
     /// Clause 4: the constant is "four", else "two".
     four_edges: bool,
     /// Which of 0.5, 1.1 and 1.8 kN is the live load, counted from 0.
@@ -45,8 +47,7 @@ impl Loads {
         let pressures = THICKNESSES.map(|thick| pressure(pane, thick));
         Loads {
             laminated_only: pane.top >= 3_000,
-            w: pane.w,
-            h: pane.h,
+            cut_sizes: THICKNESSES.map(|thick| cut_size(pane, thick)),
             four_edges: pane.edges == 4,
             live_load: live_load(pane),
             column: column(pane),
@@ -61,13 +62,11 @@ impl Loads {
         if self.laminated_only && glass.kind == 4 {
             return FAILS_KIND;
         }
-        let along = self.w <= glass.w && self.h <= glass.h;
-        let across = self.w <= glass.h && self.h <= glass.w;
-        if !along && !across {
+        let thickness = thickness_index(glass.thick);
+        if !lies_within(self.cut_sizes[thickness], glass) {
             return FAILS_SIZE;
         }
         let kind = usize::from(glass.kind) - 1;
-        let thickness = thickness_index(glass.thick);
         if self.span > SPANS[kind][self.live_load][thickness][self.column] {
             return FAILS_POINT_LOAD;
         }
@@ -86,6 +85,25 @@ impl Loads {
 /// The place of a thickness of 6, 8, 10 or 12 mm among the four.
 pub fn thickness_index(thick: u8) -> usize {
     usize::from(thick - 6) / 2
+}
+
+/// The least that glass of this thickness reaches into the rebate at an edge, in mm.
+pub fn edge_cover(thick: u8) -> u16 {
+    EDGE_COVERS[thickness_index(thick)]
+}
+
+/// The w and h in mm to which a pane is cut from glass of this thickness: the sight size with the edge
+/// cover at every edge, with two supports as with four.
+pub fn cut_size(pane: &Pane, thick: u8) -> (u16, u16) {
+    let covers = 2 * edge_cover(thick);
+    (pane.w + covers, pane.h + covers)
+}
+
+/// Whether a cut size lies within the sheet, w along w or w along h.
+fn lies_within((w, h): (u16, u16), sheet: &Glass) -> bool {
+    let along = w <= sheet.w && h <= sheet.h;
+    let across = w <= sheet.h && h <= sheet.w;
+    along || across
 }
 
 /// The verdict on the pane and the glass of these ids: the first clause that fails, or `PASSES`.

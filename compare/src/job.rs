@@ -41,7 +41,7 @@ impl Glass {
     }
 }
 
-/// A pane line. Lengths in mm, `down` and `up` in units of 0.01 kPa.
+/// A pane line. Lengths in mm, `w` and `h` as sight size, `down` and `up` in units of 0.01 kPa.
 #[derive(Clone, Copy, Debug, Default, PartialEq, Eq)]
 pub struct Pane {
     pub id: u16,

@@ -1,8 +1,9 @@
 //! Panes and glasses on either side of every boundary in document 01, "The four clauses", and
-//! document 02, 2026-01.
+//! document 02, 2026-01 and 2026-02.
 
-use super::plan::{either_way_round, sizes, strong_glass, Plan};
-use super::spans;
+use super::easy::{easy_pane, easy_two_edge_pane, strong_glass};
+use super::plan::{sizes, Plan};
+use super::{cut_sizes, spans};
 use crate::clauses::{thickness_index, Loads, THICKNESSES};
 use crate::job::{Glass, Pane};
 use crate::random::Random;
@@ -13,12 +14,12 @@ pub fn plan(random: &mut Random) -> Plan {
     let (glasses, panes) = sizes(random);
     let mut plan = Plan::default();
     for at in 0..glasses.max(panes) {
-        let (pane, glass) = match random.below(8) {
+        let (pane, glass) = match random.below(11) {
             0 => kind(random),
-            1 => size(random),
-            2 | 3 => spans::entry(random),
-            4 => spans::three_times(random),
-            5 | 6 => pressure(random),
+            1..=4 => cut_sizes::size(random),
+            5 | 6 => spans::entry(random),
+            7 => spans::three_times(random),
+            8 | 9 => pressure(random),
             _ => allowed_extremes(random),
         };
         if at < panes {
@@ -34,38 +35,6 @@ pub fn plan(random: &mut Random) -> Plan {
     plan
 }
 
-/// A four-edge pane for which the strong glass passes. One in two is a ribbon.
-fn easy_pane(random: &mut Random) -> Pane {
-    let shorter = random.draw(1..=1_600u16);
-    let longer = if random.one_in(2) {
-        random.draw(shorter..=3 * shorter)
-    } else {
-        random.draw(3 * shorter + 1..=5_000)
-    };
-    let (w, h) = either_way_round((shorter, longer), random);
-    Pane {
-        id: 0,
-        edges: 4,
-        angle: random.draw(30..=74),
-        awning: false,
-        top: random.pick(&[0, 2_500, 2_999, 3_000, 7_000]),
-        w,
-        h,
-        down: random.draw(0..=200),
-        up: random.draw(0..=200),
-    }
-}
-
-/// A two-edge pane for which the strong glass passes.
-fn easy_two_edge_pane(random: &mut Random) -> Pane {
-    Pane {
-        edges: 2,
-        w: random.draw(1..=1_600),
-        h: random.draw(1..=5_000),
-        ..easy_pane(random)
-    }
-}
-
 /// Tops about 3000.
 fn kind(random: &mut Random) -> (Pane, Glass) {
     let pane = Pane {
@@ -74,20 +43,6 @@ fn kind(random: &mut Random) -> (Pane, Glass) {
     };
     let glass = Glass {
         kind: random.pick(&[4, 4, 3, 2]),
-        ..strong_glass()
-    };
-    (pane, glass)
-}
-
-/// Sheets equal to the pane or one mm off, either way round.
-fn size(random: &mut Random) -> (Pane, Glass) {
-    let pane = easy_pane(random);
-    let mut near = |side: u16| (side + random.pick(&[0, 1, 1, 2])).max(2) - 1;
-    let sides = (near(pane.w), near(pane.h));
-    let (w, h) = either_way_round(sides, random);
-    let glass = Glass {
-        w,
-        h,
         ..strong_glass()
     };
     (pane, glass)

@@ -1,6 +1,7 @@
 //! Plausible roofs and racks, in ranges where every verdict occurs, on ribbons too.
 
 use super::plan::{either_way_round, sizes, Plan};
+use crate::clauses::{edge_cover, THICKNESSES};
 use crate::job::{Glass, Pane, MOST_GLASSES, MOST_PANES};
 use crate::random::Random;
 
@@ -46,7 +47,7 @@ pub fn plan_of(glasses: usize, panes: usize, random: &mut Random) -> Plan {
 
 fn glass(most_sheets: u16, random: &mut Random) -> Glass {
     let kind = random.draw(1..=4u8);
-    let thick = random.pick(&[6, 8, 10, 12]);
+    let thick = random.pick(&THICKNESSES);
     let (w, h) = random.pick(&SHEETS);
     // About the constants of the figures: tenths of k1 for each mm, more for heat treatment.
     let for_each_mm = [1_775, 2_250, 2_900, 2_900][usize::from(kind) - 1];
@@ -65,9 +66,10 @@ fn glass(most_sheets: u16, random: &mut Random) -> Glass {
 
 /// A pane as it is repeated on a roof.
 fn style(random: &mut Random) -> Pane {
-    let (edges, (w, h)) = match random.below(4) {
-        0 => (2, (50 * random.draw(5..=14), 50 * random.draw(10..=60))),
-        1 => (4, ribbon(random)),
+    let (edges, (w, h)) = match random.below(8) {
+        0 | 1 => (2, (50 * random.draw(5..=14), 50 * random.draw(10..=60))),
+        2 | 3 => (4, ribbon(random)),
+        4 => (4, whole_sheet(random)),
         _ => (4, rectangle(random)),
     };
     Pane {
@@ -88,6 +90,13 @@ fn rectangle(random: &mut Random) -> (u16, u16) {
     let w = 50 * random.draw(5..=36);
     let h = w + 50 * random.draw(0..=w / 25);
     (w, h.min(3_600))
+}
+
+/// Sides whose cut size is a whole sheet, where that is at most 5000 long.
+fn whole_sheet(random: &mut Random) -> (u16, u16) {
+    let (w, h) = random.pick(&SHEETS);
+    let covers = 2 * edge_cover(random.pick(&THICKNESSES));
+    either_way_round((w - covers, (h - covers).min(5_000)), random)
 }
 
 /// Sides of a ratio of 4 or 5, as is usual for ribbons, and at times of 8.

@@ -1,10 +1,12 @@
 //! Job files by seed, of seven kinds, for "The job file" and all that follows in document 01, and for
-//! document 02, 2026-01.
+//! document 02, 2026-01 and 2026-02.
 
 mod boundaries;
+mod cut_sizes;
 mod damaged_anywhere;
 mod damaged_lines;
 mod draft;
+mod easy;
 mod honest;
 mod limits;
 mod plan;

@@ -42,21 +42,6 @@ pub fn either_way_round((one, other): (u16, u16), random: &mut Random) -> (u16, 
     }
 }
 
-/// A glass that passes for every pane with a span up to 2000 that is no awning and has 30 degrees
-/// or more.
-pub fn strong_glass() -> Glass {
-    Glass {
-        id: 1,
-        kind: 3,
-        thick: 12,
-        w: 9_999,
-        h: 9_999,
-        two: 99_999,
-        four: 99_999,
-        stock: 1,
-    }
-}
-
 /// Different ids: counted up or down, spread over all ids, or the first and the last of them.
 fn ids(count: usize, random: &mut Random) -> Vec<u16> {
     let largest = LARGEST_ID as u16;

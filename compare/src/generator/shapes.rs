@@ -1,16 +1,24 @@
 //! Jobs that are hard for document 01, "The placing". The sheets rise in width as they fall in
 //! height, so that a pane's sides set any interval of glasses that pass for it.
 
-use super::plan::{either_way_round, sizes, strong_glass, Plan};
+#[cfg(test)]
+mod tests;
+
+use super::easy::strong_glass;
+use super::plan::{either_way_round, sizes, Plan};
+use crate::clauses::cut_size;
 use crate::job::{Glass, Pane};
 use crate::random::Random;
 
 /// A pane's glasses, first and last.
 type Interval = (usize, usize);
 
-/// Widths of the first sheet, in mm. With 400 all panes are ribbons, and with 1000 none is. With 700
-/// some are where the rack is large, and with 820 also where it is small.
+/// Widths of the widest pane that the first sheet covers, in mm. With 400 all panes are ribbons, and
+/// with 1000 none is. With 700 some are where the rack is large, and with 820 also where it is small.
 const FIRST_WIDTHS: [u16; 4] = [400, 700, 820, 1_000];
+
+/// The thicknesses of the sheets, in mm. 6 mm would be too thin for the widest ribbons.
+const THICK: [u8; 3] = [8, 10, 12];
 
 pub fn plan(random: &mut Random) -> Plan {
     let (glasses, panes) = sizes(random);
@@ -41,8 +49,8 @@ impl Shape {
         let first_width = random.pick(&FIRST_WIDTHS);
         let mut plan = Plan::default();
         for (at, &stock) in self.stocks.iter().enumerate() {
-            let sides = sides(first_width, (at, at));
-            plan.glasses.push(sheet(sides, stock));
+            let thick = random.pick(&THICK);
+            plan.glasses.push(sheet(first_width, at, thick, stock));
         }
         for &interval in &self.intervals {
             let sides = either_way_round(sides(first_width, interval), random);
@@ -58,16 +66,19 @@ impl Shape {
     }
 }
 
-/// The sides of the largest pane that lies within all sheets of an interval. Every height is above
-/// every width, so that the pane lies within no other sheet, either way round.
+/// The sides of the largest pane that all sheets of an interval cover. Every height is above every
+/// width, so that no other sheet covers it, either way round.
 fn sides(first_width: u16, (first, last): Interval) -> (u16, u16) {
     let width = first_width + 5 * first as u16;
     let height = 2_500 - 5 * last as u16;
     (width, height)
 }
 
-fn sheet((w, h): (u16, u16), stock: u16) -> Glass {
+/// The sheet at this place, of the cut size of the pane that it alone covers.
+fn sheet(first_width: u16, at: usize, thick: u8, stock: u16) -> Glass {
+    let (w, h) = cut_size(&pane(sides(first_width, (at, at))), thick);
     Glass {
+        thick,
         w,
         h,
         stock,
@@ -75,7 +86,7 @@ fn sheet((w, h): (u16, u16), stock: u16) -> Glass {
     }
 }
 
-/// A pane of these sides, for which every sheet passes that it lies within.
+/// A pane of these sides, for which every sheet passes that covers it.
 fn pane((w, h): (u16, u16)) -> Pane {
     Pane {
         id: 0,

@@ -1,7 +1,8 @@
 //! Spans about the entries of Tables 6.2 to 6.5: document 01, "The four clauses", clause 3, and for
 //! ribbons document 02, 2026-01.
 
-use super::plan::{either_way_round, strong_glass};
+use super::easy::strong_glass;
+use super::plan::either_way_round;
 use crate::clauses::{thickness_index, THICKNESSES};
 use crate::job::{Glass, Pane};
 use crate::random::Random;

@@ -2,9 +2,7 @@
 //! (c) by document 02, 2026-01.
 
 use crate::jobs::{accepted, glass, EXAMPLE_J};
-use compare::clauses::{
-    verdict, Loads, FAILS_KIND, FAILS_POINT_LOAD, FAILS_SIZE, FAILS_UNIFORM_LOAD, PASSES,
-};
+use compare::clauses::{verdict, Loads, FAILS_KIND, FAILS_POINT_LOAD, FAILS_UNIFORM_LOAD, PASSES};
 use compare::job::{Glass, Pane};
 use compare::reader::read;
 use compare::refusal::Refusal;
@@ -160,24 +158,6 @@ fn j_the_job_of_the_program() {
     assert_eq!(verdict(EXAMPLE_J, 65_537, 9), Err(Refusal::new(10, 0)));
     assert_eq!(verdict(EXAMPLE_J, 1, 8), Err(Refusal::new(11, 0)));
     assert_eq!(verdict(b"", 1, 8), Err(Refusal::new(1, 0)));
-}
-
-#[test]
-fn size_either_way_round() {
-    let judge = |w, h| {
-        let pane = Pane { w, h, ..pane() };
-        let glass = Glass {
-            w: 800,
-            h: 1600,
-            ..glass()
-        };
-        Loads::of(&pane).judge(&glass)
-    };
-    assert_eq!(judge(800, 1600), PASSES);
-    assert_eq!(judge(1600, 800), PASSES);
-    assert_eq!(judge(801, 1600), FAILS_SIZE);
-    assert_eq!(judge(1600, 801), FAILS_SIZE);
-    assert_eq!(judge(801, 801), FAILS_SIZE);
 }
 
 #[test]

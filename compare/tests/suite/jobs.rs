@@ -30,6 +30,15 @@ P 1 4 30 0 3000 2800 700 60 95
 T 00000 00066
 ";
 
+/// A pane of 900 by 1500 is cut to 918 by 1518 from glass 9 and to 916 by 1516 from glass 7. Both panes
+/// are short: glass 9, with one sheet, is just large enough for them, and glass 7 is 1 mm too small.
+pub const CUT_JOB: &[u8] = b"G 9 1 12 918 1518 21304 23857 1
+G 7 1 10 1600 915 17976 20130 1
+P 1 4 30 0 3000 900 1500 60 95
+P 2 4 30 0 3000 1500 900 60 95
+T 00000 00064
+";
+
 /// A file of these parts, without notes.
 fn file(glass_part: &str, pane_part: &str) -> Vec<u8> {
     format!("{glass_part}{pane_part}T 00000 {:05}\n", glass_part.len()).into_bytes()

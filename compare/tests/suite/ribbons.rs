@@ -68,12 +68,13 @@ fn clause_1_kind() {
     assert_eq!(judge(3000, 3), PASSES);
 }
 
+/// 12 mm has an edge cover of 9.
 #[test]
 fn clause_2_size() {
     let judge = |w, h| {
         let sheet = Glass {
-            w: 600,
-            h: 3000,
+            w: 618,
+            h: 3018,
             ..glass()
         };
         judge(pane(w, h), sheet)
@@ -188,6 +189,7 @@ fn clause_4_has_the_constant_four() {
     }
 }
 
+/// The ribbon is cut to 713 by 3517 from 6 mm, and to 717 by 3521 from 8 mm.
 #[test]
 fn the_first_clause_that_fails() {
     let ribbon = Pane {
@@ -197,7 +199,7 @@ fn the_first_clause_that_fails() {
     let worst = Glass {
         kind: 4,
         thick: 6,
-        w: 700,
+        w: 712,
         h: 3600,
         four: 1,
         ..glass()
@@ -205,7 +207,7 @@ fn the_first_clause_that_fails() {
     assert_eq!(judge(ribbon, worst), FAILS_KIND);
     let ribbon = Pane { top: 0, ..ribbon };
     assert_eq!(judge(ribbon, worst), FAILS_SIZE);
-    let wider = Glass { w: 701, ..worst };
+    let wider = Glass { w: 717, ..worst };
     assert_eq!(judge(ribbon, wider), FAILS_POINT_LOAD);
     let thicker = Glass { thick: 8, ..wider };
     assert_eq!(judge(ribbon, thicker), FAILS_UNIFORM_LOAD);

@@ -1,14 +1,15 @@
 //! A library with wrong answers, each of which the comparison of a file has to find.
 
-use crate::jobs::{EXAMPLE_J, RIBBON_JOB, SHORT_JOB};
+use crate::jobs::{CUT_JOB, EXAMPLE_J, RIBBON_JOB, SHORT_JOB};
 use crate::reference::Reference;
 use compare::bordavina::{CheckResult, PlaceResult, VerdictResult, TEXT_SIZE};
 use compare::calls::Library;
+use compare::clauses::PASSES;
 use compare::comparison::{compare, TEXT_LEFT, TEXT_WITHIN};
 use compare::place_call::{ACCEPTED, ANSWERS_LEFT, GROUP_LEFT, REFUSED};
 use compare::random::Random;
 use compare::refusal::{Refusal, NO_GLASS, NO_PANE, SHORT_LIST};
-use compare::rules::{GROUP, PLACED, STOCK, WANTED};
+use compare::rules::{GROUP, PASSING, PLACED, STOCK, WANTED};
 use compare::text::FORM;
 
 type AlterCheck = fn(&mut CheckResult);
@@ -66,6 +67,7 @@ fn unaltered_answers() {
         EXAMPLE_J,
         SHORT_JOB,
         RIBBON_JOB,
+        CUT_JOB,
         b"",
         b"T 00000 00000\n",
         b"GT 00000 00001\n",
@@ -158,6 +160,35 @@ fn ribbons_refused_with_number_7() {
         ..Altered::default()
     };
     assert!(found(&report, RIBBON_JOB, "report", FORM));
+}
+
+/// By sight size, both panes could be served.
+#[test]
+fn sheets_smaller_than_the_cut_size() {
+    let verdict = Altered {
+        verdict: Some(|answer| answer.clause = PASSES),
+        ..Altered::default()
+    };
+    assert!(found(&verdict, CUT_JOB, "verdict", "clause: 2"));
+    let place = Altered {
+        place: Some(|answer, answers, _| {
+            if answer.number == 0 {
+                answers[..2].copy_from_slice(&[9, 7]);
+                (answer.placed, answer.group) = (2, 0);
+            }
+        }),
+        ..Altered::default()
+    };
+    assert!(found(&place, CUT_JOB, "place", PASSING));
+    let report = Altered {
+        report: Some(|length, text| {
+            let lines = b"1 9\n2 7\n2 2\n";
+            text[..lines.len()].copy_from_slice(lines);
+            *length = lines.len();
+        }),
+        ..Altered::default()
+    };
+    assert!(found(&report, CUT_JOB, "report", PASSING));
 }
 
 fn fill_last(list: &mut [u32]) {

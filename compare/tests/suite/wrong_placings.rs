@@ -1,6 +1,6 @@
 //! Wrong placings, each of which has to be found by the rules that it breaks.
 
-use crate::jobs::{EXAMPLE_J, RIBBON_JOB, SHORT_JOB};
+use crate::jobs::{CUT_JOB, EXAMPLE_J, RIBBON_JOB, SHORT_JOB};
 use compare::reader::read;
 use compare::roof::Roof;
 use compare::rules::{
@@ -32,6 +32,8 @@ fn right_placings() {
     assert_eq!(broken(SHORT_JOB, &[7, 9, 0], (2, 3), &[3, 4]), [""; 0]);
     assert_eq!(broken(SHORT_JOB, &[7, 0, 9], (2, 3), &[4, 3]), [""; 0]);
     assert_eq!(broken(RIBBON_JOB, &[7, 9], (2, 2), &[]), [""; 0]);
+    assert_eq!(broken(CUT_JOB, &[9, 0], (1, 2), &[1, 2]), [""; 0]);
+    assert_eq!(broken(CUT_JOB, &[0, 9], (1, 2), &[2, 1]), [""; 0]);
 }
 
 #[test]
@@ -67,6 +69,14 @@ fn glass_that_does_not_pass() {
     assert_eq!(broken(EXAMPLE_J, &[9, 7], (2, 2), &[]), [PASSING]);
     assert_eq!(broken(EXAMPLE_J, &[8, 9], (2, 2), &[]), [PASSING]);
     assert_eq!(broken(RIBBON_JOB, &[9, 7], (2, 2), &[]), [PASSING]);
+}
+
+/// By sight size, glass 7 would pass.
+#[test]
+fn glass_smaller_than_the_cut_size() {
+    let rules = broken(CUT_JOB, &[9, 7], (2, 2), &[]);
+    assert_eq!(rules, [PASSING, ALL_SERVED]);
+    assert_eq!(broken(CUT_JOB, &[7, 9], (2, 2), &[]), rules);
 }
 
 #[test]
