@@ -152,11 +152,7 @@ fn ribbons_refused_with_number_7() {
     };
     assert!(found(&place, RIBBON_JOB, "place", ACCEPTED));
     let report = Altered {
-        report: Some(|length, text| {
-            let line = b"refused 7 66\n";
-            text[..line.len()].copy_from_slice(line);
-            *length = line.len();
-        }),
+        report: Some(|length, text| *length = write(text, b"refused 7 66\n")),
         ..Altered::default()
     };
     assert!(found(&report, RIBBON_JOB, "report", FORM));
@@ -181,14 +177,16 @@ fn sheets_smaller_than_the_cut_size() {
     };
     assert!(found(&place, CUT_JOB, "place", PASSING));
     let report = Altered {
-        report: Some(|length, text| {
-            let lines = b"1 9\n2 7\n2 2\n";
-            text[..lines.len()].copy_from_slice(lines);
-            *length = lines.len();
-        }),
+        report: Some(|length, text| *length = write(text, b"1 9\n2 7\n2 2\n")),
         ..Altered::default()
     };
     assert!(found(&report, CUT_JOB, "report", PASSING));
+}
+
+/// Writes these lines to the front of a text, and gives their length.
+fn write(text: &mut [u8], lines: &[u8]) -> usize {
+    text[..lines.len()].copy_from_slice(lines);
+    lines.len()
 }
 
 fn fill_last(list: &mut [u32]) {

@@ -4,12 +4,12 @@
 --     too-small-is      the two tests are the definition's, of any sides
 --     by-sides          and of a pane and a glass
 use Prim.Native.Nat.{ℕ, _≤_, min, max}
-use mathlib.Core.Path.{_≡_, refl, _∙_}
+use mathlib.Core.Path.{_≡_, refl}
 use mathlib.Core.Bool.{Bool, true, false, not, _&&_, _||_}
 use native.Mathlib.Omega.{arith}
 use lib.Dec.{leb, ltb}
 use borrow.Author.Tests.{leb-true, leb-false, ltb-false, le-leb, le-ltb}
-use Rattle.basics.proofs.Tests.{both-true, both-false, differ}
+use Rattle.basics.proofs.Tests.{both-true, both-false}
 use Rattle.job_glass.specs.declared.Glass.{Glass}
 use Rattle.job_pane.specs.declared.Pane.{Pane}
 use Rattle.cut_size.specs.EdgeCover.{edgeCover}
@@ -32,18 +32,15 @@ module _ (w h sheetW sheetH : ℕ) where
   pub no-side-longer : min w h ≤ min sheetW sheetH → max w h ≤ max sheetW sheetH → (tooNarrow || tooLow) ≡ false
   no-side-longer x y = rw (le-ltb (min sheetW sheetH) (min w h) x, le-ltb (max sheetW sheetH) (max w h) y)
 
-  -- So where the cut lies within, upright or turned, neither does.
-  one-way : (a b : Bool) → upright ≡ a → turned ≡ b → (a || b) ≡ true → (tooNarrow || tooLow) ≡ false
-  one-way true b e f is =
-      let t = both-true (leb w sheetW) (leb h sheetH) e in
-      let x = leb-true w sheetW (t .0) in
-      let y = leb-true h sheetH (t .1) in
-      no-side-longer (omega (arith, x, y)) (omega (arith, x, y))
-  one-way false b e f is =
-      let t = both-true (leb w sheetH) (leb h sheetW) (f ∙ is) in
-      let x = leb-true w sheetH (t .0) in
-      let y = leb-true h sheetW (t .1) in
-      no-side-longer (omega (arith, x, y)) (omega (arith, x, y))
+  -- So where the cut lies within the sheet's sides, taken in either order, neither does.
+  one-way :
+      (a b : ℕ) → min a b ≡ min sheetW sheetH → max a b ≡ max sheetW sheetH →
+      (leb w a && leb h b) ≡ true → (tooNarrow || tooLow) ≡ false
+  one-way a b x y e =
+      let t = both-true (leb w a) (leb h b) e in
+      let l = leb-true w a (t .0) in
+      let r = leb-true h b (t .1) in
+      no-side-longer (omega (arith, x, l, r)) (omega (arith, y, l, r))
 
   -- And where no ordered side is longer, the cut lies within, upright or turned.
   some-way : min w h ≤ min sheetW sheetH → max w h ≤ max sheetW sheetH → (upright || turned) ≡ true
@@ -59,14 +56,17 @@ module _ (w h sheetW sheetH : ℕ) where
           rw (e, le-leb w sheetH (omega (arith, x, y, z)), le-leb h sheetW (omega (arith, x, y, z)))
 
   pub too-small-is : (tooNarrow || tooLow) ≡ not (upright || turned)
-  too-small-is = go (tooNarrow || tooLow) (upright || turned) refl refl
+  too-small-is = go upright turned (tooNarrow || tooLow) refl refl refl
     where
-      go : (a b : Bool) → (tooNarrow || tooLow) ≡ a → (upright || turned) ≡ b → (tooNarrow || tooLow) ≡ not (upright || turned)
-      go false b e f =
-          let t = both-false tooNarrow tooLow e in
-          rw (e, some-way (ltb-false _ _ (t .0)) (ltb-false _ _ (t .1)))
-      go true true e f = differ e (one-way upright turned refl refl f)
-      go true false e f = rw (e, f)
+      go :
+          (u t s : Bool) → upright ≡ u → turned ≡ t → (tooNarrow || tooLow) ≡ s →
+          (tooNarrow || tooLow) ≡ not (upright || turned)
+      go true t s e f is = rw e (one-way sheetW sheetH refl refl e)
+      go false true s e f is = rw (e, f) (one-way sheetH sheetW (omega arith) (omega arith) f)
+      go false false true e f is = rw (e, f, is)
+      go false false false e f is =
+          let none = both-false tooNarrow tooLow is in
+          rw (is, some-way (ltb-false _ _ (none .0)) (ltb-false _ _ (none .1)))
 
 pub by-sides :
     (p : Pane) (g : Glass) →
