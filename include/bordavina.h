@@ -5,7 +5,13 @@
  * is 0. Lent lists do not overlap one another or the file. The library is for x86-64.
  *
  * A thread with a stack of 128 KB can make every call. On threads with small stacks, bordavina_check returned on 40 KB,
- * bordavina_verdict and bordavina_place on 56 KB and bordavina_report on 72 KB, and on 4 KB less they did not. */
+ * bordavina_verdict and bordavina_place on 56 KB and bordavina_report on 72 KB, and on 4 KB less they did not.
+ *
+ * A job file has a line for each glass, with the letter G, and for each pane, with the letter P or Q. The numbers of both pane
+ * lines are the same but for the last two: wind pressures down and up, 0 to 1000 in units of 0.01 kPa, on a P line; a wind class,
+ * 1 to 10 for N1 to N6 and C1 to C4, and a zone, 1 or 2, on a Q line. A class and a zone stand for the ultimate pressures on
+ * roofs of AS 1288, Table A2: zone 1 is away from edges, zone 2 within 1.2 m of one. A P pane with those pressures gets the same
+ * verdicts. Before request 2026-03, Q lines were refused with BORDAVINA_LINE_FORM. */
 #ifndef BORDAVINA_H
 #define BORDAVINA_H
 
