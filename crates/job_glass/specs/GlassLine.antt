@@ -5,6 +5,7 @@ use mathlib.Core.List.{List}
 use lib.Dec.{leb, eqb}
 use lib.ListN.{getD}
 use Rattle.job_line.specs.Bytes.{letterG}
+use Rattle.job_line.specs.Line.{only}
 use Rattle.job_part.specs.Part.{Form, between}
 use Rattle.job_glass.specs.declared.Glass.{Glass}
 
@@ -37,9 +38,9 @@ allowedGlass g =
 -- A glass line has the letter `G` and 8 numbers, and there are at most 64.
 abbrev pub glassForm : Form Glass
 glassForm = record {
-  letter = letterG;
+  takes = only letterG;
   count = 8;
-  entry = glassOf;
+  entry = λ letter. glassOf;
   id = λ g. g .id;
   allowed = allowedGlass;
   most = 64;

@@ -2,7 +2,7 @@
 -- is no digit and so ends the number before it.
 --     Small           numbers up to 99999
 --     written-line    what is written for numbers up to 99999 is read as those numbers
---     line-read       what is read as numbers is what is written for them, and they are as many as asked for
+--     LineWas, line-read   what is read as numbers is what is written for them, and they are as many as asked for
 use Prim.Native.Nat.{ℕ, zero, suc, _≤_, _<_}
 use mathlib.Core.Path.{_≡_, refl, sym, _∙_, ap}
 use mathlib.Core.Bool.{Bool, true, false}
@@ -10,7 +10,7 @@ use mathlib.Core.List.{List, [], _∷_, _++_, append-assoc, append-nil}
 use native.Mathlib.Omega.{arith}
 use lib.Dec.{leb, eqb, leb→le}
 use lib.ListN.{length}
-use borrow.Author.Tests.{eqb-true, eq-eqb}
+use borrow.Author.Tests.{eqb-true}
 use Rattle.basics.specs.Choice.{if_then_else_}
 use Rattle.job_line.specs.Bytes.{newline, space, next, behind, Found, found, nothing}
 use Rattle.job_line.specs.Number.{isDigit, number}
@@ -48,10 +48,11 @@ written-numbers before (n ∷ ns) rest h =
     (written-numbers (before ++ (n ∷ [])) ns rest (h .1) ∙ rw append-assoc)
 
 pub written-line :
-    (letter : ℕ) (ns rest : List ℕ) → Small ns → line letter (length ns) (writtenLine letter ns ++ rest) ≡ found ns rest
+    (takes : ℕ → Bool) (letter : ℕ) (ns rest : List ℕ) → takes letter ≡ true → Small ns →
+    line takes (length ns) (writtenLine letter ns ++ rest) ≡ found ns rest
 unfolding line ended writtenLine
-written-line letter ns rest h =
-    rw (eq-eqb letter letter refl, append-assoc (writtenNumbers ns) (newline ∷ []) rest, written-numbers [] ns rest h)
+written-line takes letter ns rest known h =
+    rw (known, append-assoc (writtenNumbers ns) (newline ∷ []) rest, written-numbers [] ns rest h)
 
 -- The numbers read behind those before them.
 record NumbersRead (left : ℕ) (before bytes ns rest : List ℕ) : Type 0 where
@@ -123,19 +124,37 @@ ended-read count bytes ns rest e = go (numbers count [] bytes) refl e
             (r .were ∙ rw (same, tail-is), rw same at (r .count))
         step false p g = clash (cc)
 
+-- A line that was read: its letter is one that is taken, and it was written with that letter and those numbers.
+pub record LineWas (takes : ℕ → Bool) (count : ℕ) (bytes ns rest : List ℕ) : Type 0 where
+  pub known : takes (next bytes) ≡ true
+  pub were : bytes ≡ writtenLine (next bytes) ns ++ rest
+  pub many : length ns ≡ count
+
+-- A letter that is taken is the first of the bytes, where no byte 0 is taken.
+letter-is :
+    (takes : ℕ → Bool) (bytes : List ℕ) → takes 0 ≡ false → takes (next bytes) ≡ true → bytes ≡ next bytes ∷ behind bytes
+letter-is takes [] none e = clash (cc)
+letter-is takes (b ∷ bytes) none e = refl
+
 pub line-read :
-    (letter count : ℕ) (bytes ns rest : List ℕ) →
-    0 < letter →
-    line letter count bytes ≡ found ns rest →
-    (bytes ≡ writtenLine letter ns ++ rest) × (length ns ≡ count)
+    (takes : ℕ → Bool) (count : ℕ) (bytes ns rest : List ℕ) →
+    takes 0 ≡ false →
+    line takes count bytes ≡ found ns rest →
+    LineWas takes count bytes ns rest
 unfolding line writtenLine
-line-read letter count bytes ns rest h = go (eqb (next bytes) letter) refl
+line-read takes count bytes ns rest none = go (takes (next bytes)) refl
   where
     go :
-        (t : Bool) → eqb (next bytes) letter ≡ t →
+        (t : Bool) → takes (next bytes) ≡ t →
         (if t then ended (numbers count [] (behind bytes)) else nothing) ≡ found ns rest →
-        (bytes ≡ writtenLine letter ns ++ rest) × (length ns ≡ count)
+        LineWas takes count bytes ns rest
     go true p f =
         let r = ended-read count (behind bytes) ns rest f in
-        (next-is letter bytes h p ∙ rw (r .0, append-assoc), r .1)
+        record {
+          known = p;
+          were =
+              letter-is takes bytes none p
+              ∙ ap (λ l. next bytes ∷ l) (r .0 ∙ sym (append-assoc (writtenNumbers ns) (newline ∷ []) rest));
+          many = r .1;
+        }
     go false p f = clash (cc)

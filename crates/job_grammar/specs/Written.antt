@@ -1,12 +1,14 @@
 -- The grammar of the job file: the bytes that are written for a line, for a glass or a pane, for a part and for a file.
--- Document 01, "The job file", from the writer's side.
+-- Document 01, "The job file", and document 02, 2026-03, from the writer's side.
 use Prim.Native.Nat.{ℕ, _+_}
 use mathlib.Core.List.{List, [], _∷_, _++_}
 use lib.ListN.{length}
-use Rattle.job_line.specs.Bytes.{newline, space, letterG, letterP, letterT}
+use Rattle.job_line.specs.Bytes.{newline, space, letterG, letterP, letterQ, letterT}
 use Rattle.job_line.specs.WrittenNumber.{writtenDigits, writtenNumbers}
 use Rattle.job_glass.specs.declared.Glass.{Glass}
 use Rattle.job_pane.specs.declared.Pane.{Pane}
+use Rattle.job_pane.specs.declared.Wind.{Wind}
+use Rattle.job_pane.specs.declared.Wind.the-variants.{ByPressure, ByClass}
 
 -- A line, from its letter to its newline.
 unfoldable pub writtenLine : ℕ → List ℕ → List ℕ
@@ -19,12 +21,21 @@ glassNumbers g = g .id ∷ g .kind ∷ g .thick ∷ g .w ∷ g .h ∷ g .two ∷
 unfoldable pub writtenGlass : Glass → List ℕ
 writtenGlass g = writtenLine letterG (glassNumbers g)
 
+-- The letter that says how a line states its wind, and the two numbers that do.
+abbrev pub windLetter : Wind → ℕ
+windLetter (ByPressure down up) = letterP
+windLetter (ByClass class zone) = letterQ
+
+abbrev pub windNumbers : Wind → List ℕ
+windNumbers (ByPressure down up) = down ∷ up ∷ []
+windNumbers (ByClass class zone) = class ∷ zone ∷ []
+
 -- The numbers of a pane.
 abbrev pub paneNumbers : Pane → List ℕ
-paneNumbers p = p .id ∷ p .edges ∷ p .angle ∷ p .awning ∷ p .top ∷ p .w ∷ p .h ∷ p .down ∷ p .up ∷ []
+paneNumbers p = p .id ∷ p .edges ∷ p .angle ∷ p .awning ∷ p .top ∷ p .w ∷ p .h ∷ windNumbers (p .wind)
 
 unfoldable pub writtenPane : Pane → List ℕ
-writtenPane p = writtenLine letterP (paneNumbers p)
+writtenPane p = writtenLine (windLetter (p .wind)) (paneNumbers p)
 
 -- A part: line after line.
 unfoldable pub writtenPart : {A : Type 0} → (A → List ℕ) → List A → List ℕ

@@ -19,7 +19,7 @@ use Rattle.basics.specs.Internal.Arrays.{written}
 use Rattle.basics.proofs.Lent.{written-next}
 use Rattle.job_line.specs.Bytes.{next, found, nothing}
 use Rattle.job_line.specs.Number.{number}
-use Rattle.job_line.specs.Line.{numbers, ended, line}
+use Rattle.job_line.specs.Line.{numbers, ended, line, only}
 use Rattle.job_line.specs.Internal.Steps.{numbersRead, lineNumbers, LineRead}
 use Rattle.job_line.specs.declared.LineEnd.the-variants.{Next, NotALine}
 use Rattle.job_line.proofs.Positions.{behind-drop}
@@ -30,7 +30,7 @@ pub record Scanned (s : List ℕ) (start letter count : ℕ) (before values : Li
   pub front : List ℕ
   pub long : length front ≡ n
   pub array : values ≡ written front before
-  pub rest : ended (numbers (count - n) front (drop at s)) ≡ line letter count (drop start s)
+  pub rest : ended (numbers (count - n) front (drop at s)) ≡ line (only letter) count (drop start s)
   pub all : front ++ numbersRead (count - n) (drop at s) ≡ lineNumbers letter count (drop start s)
   pub few : n ≤ count
   pub most : count ≤ 9

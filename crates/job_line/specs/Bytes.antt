@@ -24,6 +24,9 @@ letterG = code "G"
 abbrev pub letterP : ℕ
 letterP = code "P"
 
+abbrev pub letterQ : ℕ
+letterQ = code "Q"
+
 abbrev pub letterT : ℕ
 letterT = code "T"
 

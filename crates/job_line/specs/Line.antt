@@ -1,5 +1,6 @@
 -- Document 01, "The job file": a line, from its letter to its newline, with as many numbers as its form has.
 use Prim.Native.Nat.{ℕ, zero, suc}
+use mathlib.Core.Bool.{Bool}
 use mathlib.Core.List.{List, [], _∷_, _++_}
 use lib.Dec.{eqb}
 use Rattle.basics.specs.Choice.{if_then_else_}
@@ -22,6 +23,10 @@ unfoldable pub ended : Found (List ℕ) → Found (List ℕ)
 ended (found ns bytes) = if eqb (next bytes) newline then found ns (behind bytes) else nothing
 ended nothing = nothing
 
--- A line of `letter` and `count` numbers: the numbers, and the bytes after the newline.
-unfoldable pub line : (letter count : ℕ) (bytes : List ℕ) → Found (List ℕ)
-line letter count bytes = if eqb (next bytes) letter then ended (numbers count [] (behind bytes)) else nothing
+-- A line of a letter that `takes` allows, and of `count` numbers: the numbers, and the bytes after the newline.
+unfoldable pub line : (takes : ℕ → Bool) (count : ℕ) (bytes : List ℕ) → Found (List ℕ)
+line takes count bytes = if takes (next bytes) then ended (numbers count [] (behind bytes)) else nothing
+
+-- One letter and no other.
+abbrev pub only : (letter : ℕ) → ℕ → Bool
+only letter b = eqb b letter

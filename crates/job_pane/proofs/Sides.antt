@@ -9,4 +9,4 @@ any-sides p w h t a b =
     let k = simp (and-iff, leb-iff) at t in
     let u = simp (and-iff, leb-iff) at a in
     let v = simp (and-iff, leb-iff) at b in
-    simp (and-iff, leb-iff) ((((k .0 .0 .0 .0, u), v), k .0 .1), k .1)
+    simp (and-iff, leb-iff) (((k .0 .0 .0, u), v), k .1)

@@ -1,5 +1,6 @@
--- Document 01, "The job file": the pane line.
+-- Document 01, "The job file": the pane line. The wind that it states, also by document 02, 2026-03.
 pub mod PaneLine
+pub mod Wind
 -- Which sides a pane may have, and had.
 pub mod Sides
 pub mod Internal

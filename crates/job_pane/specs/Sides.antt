@@ -21,8 +21,7 @@ withSides w h p = record {
   top = p .top;
   w = w;
   h = h;
-  down = p .down;
-  up = p .up;
+  wind = p .wind;
 }
 
 -- Where a pane has allowed values, it has them with any two sides from 1 to 5000 mm.

@@ -1,17 +1,21 @@
 // The pane part: specs/PaneLine.antt, and specs/Part.antt of job_part.
 use crate::Pane;
 use crate::PanePart;
+use crate::Wind;
+use crate::winds::is_allowed_wind;
+use crate::winds::wind_of;
 use causes::Cause;
 use ids::is_seen;
 use ids::mark;
 use job_line::LineEnd;
+use job_line::byte_at;
 use job_line::read_line;
 use job_part::PartEnd;
 ghost use mathlib.Core.Path.{_≡_};
 ghost use mathlib.Core.List.{List};
 ghost use Prim.Native.Nat.{ℕ, _+_, _≤_};
 ghost use lib.ListN.{length, take, drop};
-ghost use Rattle.job_pane.specs.PaneLine.{paneOf, allowedPane, paneForm, blankPane};
+ghost use Rattle.job_pane.specs.PaneLine.{takesPane, paneOf, allowedPane, paneForm, blankPane};
 ghost use Rattle.job_part.specs.Part.{judged, judgedEntry};
 ghost use Rattle.job_pane.specs.Internal.Steps.{PaneRead};
 ghost use Rattle.job_part.specs.Internal.Arrays.{PartRead};
@@ -32,8 +36,7 @@ pub const NO_PANE: Pane = Pane {
     top: 0,
     w: 0,
     h: 0,
-    down: 0,
-    up: 0,
+    wind: Wind::ByPressure { down: 0, up: 0 },
 };
 
 // The pane part, which begins at the file's offset `offset`.
@@ -78,11 +81,23 @@ fn read_pane(part: &[u8], at: usize, seen: &[u64; 157]) -> PaneLine
     ensures { λ r. ⌜ ((ids : List ℕ) → IdSet (now (seen .entry)) ids →
         PaneRead (now (part .entry)) (judged paneForm ids (drop at (now (part .entry)))) r) ⌝ }
 {
-    let mut numbers = [0u32; 9];
-    match read_line(part, at, b'P', 9, &mut numbers) {
-        LineEnd::NotALine => PaneLine::FaultyPane(Cause::LineForm),
-        LineEnd::Next(next) => judge_pane(pane_of(numbers), next, seen),
+    let letter = byte_at(part, at);
+    if is_pane_letter(letter) {
+        let mut numbers = [0u32; 9];
+        match read_line(part, at, letter, 9, &mut numbers) {
+            LineEnd::NotALine => PaneLine::FaultyPane(Cause::LineForm),
+            LineEnd::Next(next) => judge_pane(pane_of(letter, numbers), next, seen),
+        }
+    } else {
+        PaneLine::FaultyPane(Cause::LineForm)
     }
+}
+
+// Whether a pane line may begin with a letter.
+fn is_pane_letter(letter: u8) -> bool
+    ensures { λ r. ⌜ r ≡ takesPane letter ⌝ }
+{
+    (letter == b'P') | (letter == b'Q')
 }
 
 // A pane line that ends at `next`, judged by the causes 5 and 6.
@@ -101,9 +116,10 @@ fn judge_pane(pane: Pane, next: usize, seen: &[u64; 157]) -> PaneLine
     }
 }
 
-fn pane_of(numbers: [u32; 9]) -> Pane
-    ensures { λ r. ⌜ r ≡ paneOf (take 9 numbers) ⌝ }
+fn pane_of(letter: u8, numbers: [u32; 9]) -> Pane
+    ensures { λ r. ⌜ r ≡ paneOf letter (take 9 numbers) ⌝ }
 {
+    let wind = wind_of(letter, numbers[7], numbers[8]);
     Pane {
         id: numbers[0],
         edges: numbers[1],
@@ -112,8 +128,7 @@ fn pane_of(numbers: [u32; 9]) -> Pane
         top: numbers[4],
         w: numbers[5],
         h: numbers[6],
-        down: numbers[7],
-        up: numbers[8],
+        wind,
     }
 }
 
@@ -121,6 +136,8 @@ fn pane_of(numbers: [u32; 9]) -> Pane
 fn is_allowed(p: Pane) -> bool
     ensures { λ r. ⌜ r ≡ allowedPane p ⌝ }
 {
+    let wind = p.wind;
+    let wind_allowed = is_allowed_wind(wind);
     ((1 <= p.id) & (p.id <= 9999))
         & ((p.edges == 2) | (p.edges == 4))
         & (p.angle <= 74)
@@ -128,6 +145,5 @@ fn is_allowed(p: Pane) -> bool
         & (p.top <= 99999)
         & ((1 <= p.w) & (p.w <= 5000))
         & ((1 <= p.h) & (p.h <= 5000))
-        & (p.down <= 1000)
-        & (p.up <= 1000)
+        & wind_allowed
 }

@@ -13,15 +13,15 @@ use lib.ListN.{length}
 use Rattle.basics.proofs.Tests.{clash}
 use Rattle.causes.specs.declared.Cause.the-variants.{LineForm, NumberValue, RepeatedId}
 use Rattle.basics.specs.Choice.{if_then_else_}
-use Rattle.job_line.specs.Bytes.{Found, found, nothing}
+use Rattle.job_line.specs.Bytes.{next, Found, found, nothing}
 use Rattle.job_line.specs.Line.{line}
 use Rattle.ids.specs.Ids.{among}
 use Rattle.job_part.specs.Part.{Form, Judged, taken, faulty, judgedEntry, judged, whole, stopped, lines}
 
 pub record Taken {A : Type 0} (form : Form A) (earlier : List A) (bytes : List ℕ) (x : A) (rest : List ℕ) : Type 0 where
   pub numbers : List ℕ
-  pub read : line (form .letter) (form .count) bytes ≡ found numbers rest
-  pub says : form .entry numbers ≡ x
+  pub read : line (form .takes) (form .count) bytes ≡ found numbers rest
+  pub says : form .entry (next bytes) numbers ≡ x
   pub allowed : T (form .allowed x)
   pub new : T (not (among (form .id x) (map (form .id) earlier)))
 
@@ -40,16 +40,16 @@ module _ {A : Type 0} (form : Form A) where
       judged form (map (form .id) earlier) bytes ≡ taken x rest →
       Taken form earlier bytes x rest
   unfolding judged judgedEntry
-  taken-was earlier bytes x rest = go (line (form .letter) (form .count) bytes) refl
+  taken-was earlier bytes x rest = go (line (form .takes) (form .count) bytes) refl
     where
       go :
-          (f : Found (List ℕ)) → line (form .letter) (form .count) bytes ≡ f →
+          (f : Found (List ℕ)) → line (form .takes) (form .count) bytes ≡ f →
           elim f [
-            | found ns after ↦ judgedEntry form (map (form .id) earlier) (form .entry ns) after
+            | found ns after ↦ judgedEntry form (map (form .id) earlier) (form .entry (next bytes) ns) after
             | nothing ↦ faulty LineForm
           ] ≡ taken x rest → Taken form earlier bytes x rest
       go (found ns after) q e =
-          let y : A = form .entry ns in
+          let y : A = form .entry (next bytes) ns in
           let g = gates (form .allowed y) (among (form .id y) (map (form .id) earlier)) y x after rest e in
           record {
             numbers = ns;

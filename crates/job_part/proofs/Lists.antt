@@ -1,4 +1,5 @@
 -- Lists whose entries all pass a test, by recursion on the list.
+--     every-append  two lists, one behind the other
 --     every-snoc    one entry more that passes the test
 --     every-at      the entry at an index passes it
 use Prim.Native.Nat.{ℕ, zero, suc, _<_}
@@ -11,10 +12,14 @@ use lib.ListN.{length, getD}
 use Rattle.job_part.specs.Rules.{Every}
 
 module _ {A : Type 0} where
+  pub every-append : (test : A → Bool) (xs ys : List A) → Every test xs → Every test ys → Every test (xs ++ ys)
+  unfolding Every
+  every-append test [] ys h k = k
+  every-append test (x ∷ xs) ys h k = (h .0, every-append test xs ys (h .1) k)
+
   pub every-snoc : (test : A → Bool) (xs : List A) (x : A) → Every test xs → T (test x) → Every test (xs ++ (x ∷ []))
   unfolding Every
-  every-snoc test [] x h t = (t, tt)
-  every-snoc test (y ∷ ys) x h t = (h .0, every-snoc test ys x (h .1) t)
+  every-snoc test xs x h t = every-append test xs (x ∷ []) h (t, tt)
 
   pub every-at :
       (test : A → Bool) (xs : List A) (blank : A) (i : ℕ) → Every test xs → i < length xs → T (test (getD xs i blank))

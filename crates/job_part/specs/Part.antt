@@ -9,16 +9,16 @@ use Rattle.causes.specs.declared.Cause.{Cause}
 use Rattle.ids.specs.Ids.{among}
 use Rattle.causes.specs.declared.Cause.the-variants.{LineForm, NumberValue, RepeatedId, TooManyLines}
 use Rattle.basics.specs.Choice.{if_then_else_}
-use Rattle.job_line.specs.Bytes.{found, nothing}
+use Rattle.job_line.specs.Bytes.{next, found, nothing}
 use Rattle.job_line.specs.Line.{line}
 
 -- What the lines of a part are like. `A` is what one line says: a glass or a pane.
 pub record Form (A : Type 0) : Type 0 where
-  -- the letter of a line, and how many numbers follow it
-  pub letter : ℕ
+  -- the letters that a line may begin with, and how many numbers follow
+  pub takes : (letter : ℕ) → Bool
   pub count : ℕ
-  -- what a line with these numbers says, and its id
-  pub entry : List ℕ → A
+  -- what a line of this letter with these numbers says, and its id
+  pub entry : (letter : ℕ) (numbers : List ℕ) → A
   pub id : A → ℕ
   -- each number is among its allowed values
   pub allowed : A → Bool
@@ -43,8 +43,8 @@ judgedEntry form ids x rest =
 -- The line at the front of some bytes: cause 4, and then the others.
 unfoldable pub judged : {A : Type 0} (form : Form A) (ids bytes : List ℕ) → Judged A
 judged form ids bytes =
-    elim (line (form .letter) (form .count) bytes) [
-      | found ns rest ↦ judgedEntry form ids (form .entry ns) rest
+    elim (line (form .takes) (form .count) bytes) [
+      | found ns rest ↦ judgedEntry form ids (form .entry (next bytes) ns) rest
       | nothing ↦ faulty LineForm
     ]
 

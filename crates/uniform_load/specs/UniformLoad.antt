@@ -6,10 +6,10 @@ use Rattle.basics.specs.Choice.{if_then_else_}
 use Rattle.job_glass.specs.declared.Glass.{Glass}
 use Rattle.job_pane.specs.declared.Pane.{Pane}
 use Rattle.dead_loads.specs.DeadLoads.{maximumAt, minimumAt}
+use Rattle.wind_classes.specs.declared.Pressures.{Pressures}
 use Rattle.point_load.specs.Support.{spanOf}
 use Rattle.uniform_load.specs.GlassLoads.{maxDeadLoad, minDeadLoad}
 use Rattle.uniform_load.specs.Wind.{pressuresOf}
-use Rattle.uniform_load.specs.declared.wind.Pressures.{Pressures}
 
 -- What governs: the maximum dead load with the wind on it, or the wind from below less the minimum. `-` gives 0 where a difference
 -- would be negative.
@@ -19,7 +19,7 @@ governing maximum minimum wind = max (maximum + wind .down) (wind .up - minimum)
 -- P, from the dead loads of the glass at the pane's angle and the wind on the pane.
 abbrev pub designPressure : Pane → Glass → ℕ
 designPressure p g =
-    governing (maxDeadLoad (maximumAt (p .angle)) g) (minDeadLoad (minimumAt (p .angle)) g) (pressuresOf p)
+    governing (maxDeadLoad (maximumAt (p .angle)) g) (minDeadLoad (minimumAt (p .angle)) g) (pressuresOf (p .wind))
 
 -- K, in tenths of k1.
 abbrev pub spanConstant : ℕ → Glass → ℕ

@@ -10,8 +10,8 @@ use job_pane::Pane;
 use point_load::span;
 use pressure::design_pressure;
 use pressure::span_constant;
-pub use wind::Pressures;
 use wind::pressures_of;
+use wind_classes::Pressures;
 ghost use mathlib.Core.Path.{_≡_};
 ghost use Rattle.job_glass.specs.Internal.Values.{GlassValues};
 ghost use Rattle.job_pane.specs.Internal.Values.{PaneValues};
@@ -35,13 +35,14 @@ pub fn uniform_load_of(pane: Pane) -> UniformLoad
     ensures { λ r. ⌜ r ≡ uniformLoadOf pane ⌝ }
 {
     let b = span(pane) as u64;
-    let wind = pressures_of(pane);
+    let wind = pane.wind;
+    let pressures = pressures_of(wind);
     UniformLoad {
         edges: pane.edges,
         square: b * b,
         most: max_row(pane.angle),
         least: min_row(pane.angle),
-        wind,
+        wind: pressures,
     }
 }
 

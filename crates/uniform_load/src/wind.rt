@@ -1,19 +1,18 @@
 // The wind on a pane: specs/Wind.antt.
-use job_pane::Pane;
+use job_pane::Wind;
+use wind_classes::Pressures;
+use wind_classes::class_pressures;
 ghost use mathlib.Core.Path.{_≡_};
+ghost use Rattle.job_pane.specs.Internal.Values.{WindValues};
 ghost use Rattle.uniform_load.specs.Wind.{pressuresOf};
 
-// Ultimate wind pressures, in units of 0.01 kPa.
-pub struct Pressures {
-    pub down: u32,
-    pub up: u32,
-}
-
-pub fn pressures_of(pane: Pane) -> Pressures
-    ensures { λ r. ⌜ r ≡ pressuresOf pane ⌝ }
+// The two pressures of a wind.
+pub fn pressures_of(wind: Wind) -> Pressures
+    requires { ⌜ WindValues wind ⌝ }
+    ensures { λ r. ⌜ r ≡ pressuresOf wind ⌝ }
 {
-    Pressures {
-        down: pane.down,
-        up: pane.up,
+    match wind {
+        Wind::ByPressure { down, up } => Pressures { down, up },
+        Wind::ByClass { class, zone } => class_pressures(class, zone),
     }
 }

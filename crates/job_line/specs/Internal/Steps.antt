@@ -10,7 +10,7 @@ use Rattle.basics.specs.Lent.{Lent}
 use Rattle.basics.specs.Internal.Arrays.{written}
 use Rattle.job_line.specs.Bytes.{space, next, behind, Found, found, nothing}
 use Rattle.job_line.specs.Number.{number}
-use Rattle.job_line.specs.Line.{line}
+use Rattle.job_line.specs.Line.{line, only}
 use Rattle.job_line.specs.declared.NumberAt.{NumberAt}
 use Rattle.job_line.specs.declared.NumberAt.the-variants.{Value, Missing}
 use Rattle.job_line.specs.declared.LineEnd.{LineEnd}
@@ -42,5 +42,5 @@ LineEnds bytes count d numbers NotALine = d ≡ nothing
 
 -- A line read at `start`: where it ends, and what the lent array then holds, whether there is a line or none.
 pub record LineRead (bytes : List ℕ) (start letter count : ℕ) (numbers : Lent) (r : LineEnd) : Type 0 where
-  pub ends : LineEnds bytes count (line letter count (drop start bytes)) (numbers .after) r
+  pub ends : LineEnds bytes count (line (only letter) count (drop start bytes)) (numbers .after) r
   pub numbers-are : numbers .after ≡ written (lineNumbers letter count (drop start bytes)) (numbers .before)

@@ -3,6 +3,13 @@ use Prim.Native.Nat.{_≤_}
 use mathlib.Core.Path.{_≡_}
 use mathlib.Core.Logic.{_⊎_}
 use Rattle.job_pane.specs.declared.Pane.{Pane}
+use Rattle.job_pane.specs.declared.Wind.{Wind}
+use Rattle.job_pane.specs.declared.Wind.the-variants.{ByPressure, ByClass}
+
+-- The allowed values of a wind, as bounds.
+abbrev pub WindValues : Wind → Type 0
+WindValues (ByPressure down up) = (down ≤ 1000) × (up ≤ 1000)
+WindValues (ByClass class zone) = (1 ≤ class) × (class ≤ 10) × (1 ≤ zone) × (zone ≤ 2)
 
 -- The allowed values of a pane, as bounds.
 pub record PaneValues (p : Pane) : Type 0 where
@@ -16,5 +23,4 @@ pub record PaneValues (p : Pane) : Type 0 where
   pub w-high : p .w ≤ 5000
   pub h-low : 1 ≤ p .h
   pub h-high : p .h ≤ 5000
-  pub down-high : p .down ≤ 1000
-  pub up-high : p .up ≤ 1000
+  pub wind-is : WindValues (p .wind)

@@ -7,7 +7,7 @@ use Rattle.uniform_load.proofs.Bounds.{span-high}
 use Rattle.uniform_load.proofs.uniform_load_of.Statement.{statement}
 use Rattle.uniform_load.proofs.uniform_load_of.Tie as tie
 
-square-fits : tie.Need-mul-t5
+square-fits : tie.Need-mul-t6
 square-fits c =
     let b : c .before .span .result ≤ 5000 = rw (c .before .span .ensures) (span-high (c .before .before .pre)) in
     omega (arith, mul-le-mul b b)

@@ -17,7 +17,7 @@ uniformLoadOf p = record {
   square = spanOf p * spanOf p;
   most = maximumAt (p .angle);
   least = minimumAt (p .angle);
-  wind = pressuresOf p;
+  wind = pressuresOf (p .wind);
 }
 
 abbrev pub pressureOn : UniformLoad → Glass → ℕ

@@ -10,6 +10,7 @@ pane-of-spec =
     (tie.spec
     (λ c. search needs)
     (λ c. search needs)
+    (λ c κs. search needs)
     (λ c. search needs)
     (λ c. search needs)
     (λ c. search needs)
@@ -17,4 +18,4 @@ pane-of-spec =
     (λ c. search needs)
     (λ c. search needs)
     (λ c. search needs)
-    (λ c. pane-of-first (c .args .t1)))
+    (λ c. rw (c .wind-of .ensures) (pane-of-first (c .before .args .letter) (c .before .args .t2))))

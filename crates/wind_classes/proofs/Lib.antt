@@ -1,0 +1,3 @@
+-- The rows of Table A2.
+pub mod RoofRows
+pub mod TableLaws
