@@ -4,7 +4,6 @@ mod line;
 mod number;
 
 pub use line::read_line;
-pub use number::byte_at;
 
 // A number and the position behind its last digit.
 pub enum NumberAt {

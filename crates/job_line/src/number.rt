@@ -45,7 +45,7 @@ fn read_digits(s: &[u8], start: usize, begun: u32, most: usize) -> NumberAt
 }
 
 // The byte at a position; 0 past the end.
-pub fn byte_at(s: &[u8], at: usize) -> u8
+pub(crate) fn byte_at(s: &[u8], at: usize) -> u8
     ensures { λ r. ⌜ r ≡ next (drop at (now (s .entry))) ⌝ }
 {
     if at < s.len() { s[at] } else { 0 }

@@ -1,14 +1,11 @@
 -- A pane whose numbers pass the test has them within their bounds.
 --     allowed-id      its id
 --     allowed-pane    all of them
---     takes-some      a letter of a pane line is no byte 0
-use Prim.Native.Nat.{ℕ, zero, suc, _≤_}
-use mathlib.Core.Path.{_≡_}
-use mathlib.Core.Bool.{true}
+use Prim.Native.Nat.{_≤_}
 use native.Mathlib.Omega.{arith}
 use lib.Dec.{T, eqb, eqb→eq}
-use Rattle.basics.proofs.Tests.{clash, and-iff, leb-iff, one-of}
-use Rattle.job_pane.specs.PaneLine.{takesPane, allowedPane}
+use Rattle.basics.proofs.Tests.{and-iff, leb-iff, one-of}
+use Rattle.job_pane.specs.PaneLine.{allowedPane}
 use Rattle.job_pane.specs.Wind.{allowedWind}
 use Rattle.job_pane.specs.Internal.Values.{WindValues, PaneValues}
 use Rattle.job_pane.specs.declared.Pane.{Pane}
@@ -40,7 +37,3 @@ allowed-pane p h =
       h-high = omega arith;
       wind-is = allowed-wind (p .wind) (k .1);
     }
-
-pub takes-some : (letter : ℕ) → takesPane letter ≡ true → 1 ≤ letter
-takes-some zero e = clash (cc)
-takes-some (suc n) e = omega arith

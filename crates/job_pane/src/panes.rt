@@ -8,14 +8,15 @@ use causes::Cause;
 use ids::is_seen;
 use ids::mark;
 use job_line::LineEnd;
-use job_line::byte_at;
 use job_line::read_line;
 use job_part::PartEnd;
 ghost use mathlib.Core.Path.{_≡_};
 ghost use mathlib.Core.List.{List};
 ghost use Prim.Native.Nat.{ℕ, _+_, _≤_};
 ghost use lib.ListN.{length, take, drop};
-ghost use Rattle.job_pane.specs.PaneLine.{takesPane, paneOf, allowedPane, paneForm, blankPane};
+ghost use Rattle.job_line.specs.Bytes.{letterP, nothing};
+ghost use Rattle.job_line.specs.Line.{line, only};
+ghost use Rattle.job_pane.specs.PaneLine.{paneOf, allowedPane, paneForm, blankPane};
 ghost use Rattle.job_part.specs.Part.{judged, judgedEntry};
 ghost use Rattle.job_pane.specs.Internal.Steps.{PaneRead};
 ghost use Rattle.job_part.specs.Internal.Arrays.{PartRead};
@@ -81,23 +82,24 @@ fn read_pane(part: &[u8], at: usize, seen: &[u64; 157]) -> PaneLine
     ensures { λ r. ⌜ ((ids : List ℕ) → IdSet (now (seen .entry)) ids →
         PaneRead (now (part .entry)) (judged paneForm ids (drop at (now (part .entry)))) r) ⌝ }
 {
-    let letter = byte_at(part, at);
-    if is_pane_letter(letter) {
-        let mut numbers = [0u32; 9];
-        match read_line(part, at, letter, 9, &mut numbers) {
-            LineEnd::NotALine => PaneLine::FaultyPane(Cause::LineForm),
-            LineEnd::Next(next) => judge_pane(pane_of(letter, numbers), next, seen),
-        }
-    } else {
-        PaneLine::FaultyPane(Cause::LineForm)
+    let mut numbers = [0u32; 9];
+    match read_line(part, at, b'P', 9, &mut numbers) {
+        LineEnd::Next(next) => judge_pane(pane_of(b'P', numbers), next, seen),
+        LineEnd::NotALine => read_class_pane(part, at, seen),
     }
 }
 
-// Whether a pane line may begin with a letter.
-fn is_pane_letter(letter: u8) -> bool
-    ensures { λ r. ⌜ r ≡ takesPane letter ⌝ }
+// The same, where there is no line of the letter `P`.
+fn read_class_pane(part: &[u8], at: usize, seen: &[u64; 157]) -> PaneLine
+    requires { ⌜ line (only letterP) 9 (drop at (now part)) ≡ nothing ⌝ }
+    ensures { λ r. ⌜ ((ids : List ℕ) → IdSet (now (seen .entry)) ids →
+        PaneRead (now (part .entry)) (judged paneForm ids (drop at (now (part .entry)))) r) ⌝ }
 {
-    (letter == b'P') | (letter == b'Q')
+    let mut numbers = [0u32; 9];
+    match read_line(part, at, b'Q', 9, &mut numbers) {
+        LineEnd::Next(next) => judge_pane(pane_of(b'Q', numbers), next, seen),
+        LineEnd::NotALine => PaneLine::FaultyPane(Cause::LineForm),
+    }
 }
 
 // A pane line that ends at `next`, judged by the causes 5 and 6.

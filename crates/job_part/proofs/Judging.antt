@@ -2,15 +2,18 @@
 --     entry-value, entry-repeated   causes 5 and 6
 --     entry-taken                   neither of them
 --     line-form, line-entry         cause 4, or the line's entry
---     letter-other, letter-form, letter-entry   the same by the letter that comes next, where a part has several
+--     no-letter, letter-entry       the same by lines of one letter, where a part has several
 use Prim.Native.Nat.{ℕ}
 use mathlib.Core.Path.{_≡_, refl, _∙_}
-use mathlib.Core.Bool.{true, false}
-use mathlib.Core.List.{List}
-use borrow.Author.Tests.{eq-eqb}
+use mathlib.Core.Bool.{Bool, true, false}
+use mathlib.Core.List.{List, []}
+use borrow.Author.Tests.{eqb-true, eq-eqb}
+use lib.Dec.{eqb}
+use Rattle.basics.specs.Choice.{if_then_else_}
+use Rattle.basics.proofs.Tests.{clash}
 use Rattle.causes.specs.declared.Cause.the-variants.{LineForm, NumberValue, RepeatedId}
-use Rattle.job_line.specs.Bytes.{next, found, nothing}
-use Rattle.job_line.specs.Line.{line, only}
+use Rattle.job_line.specs.Bytes.{next, behind, found, nothing}
+use Rattle.job_line.specs.Line.{numbers, ended, line, only}
 use Rattle.ids.specs.Ids.{among}
 use Rattle.job_part.specs.Part.{Form, taken, faulty, judgedEntry, judged}
 
@@ -38,21 +41,30 @@ module _ {A : Type 0} (form : Form A) (ids bytes : List ℕ) where
   unfolding judged
   line-entry ns rest one = rw (one, judged)
 
-  -- Where a part has several letters, its line is one of the letter that comes next.
-  module _ (letter : ℕ) (is : letter ≡ next bytes) where
-    pub letter-other : form .takes letter ≡ false → judged form ids bytes ≡ faulty LineForm
-    unfolding line
-    letter-other other = line-form (rw (← is, other))
-
-    module _ (known : form .takes letter ≡ true) where
-      line-letter : line (form .takes) (form .count) bytes ≡ line (only letter) (form .count) bytes
-      unfolding line
-      line-letter = rw (← is, eq-eqb letter letter refl, known)
-
-      pub letter-form : line (only letter) (form .count) bytes ≡ nothing → judged form ids bytes ≡ faulty LineForm
-      letter-form none = line-form (line-letter ∙ none)
-
-      pub letter-entry :
-          (ns rest : List ℕ) → line (only letter) (form .count) bytes ≡ found ns rest →
+  -- Where a part has several letters, a line of one of them is a line of the part, and where no letter has one there is none.
+  pub letter-entry :
+      (letter : ℕ) (ns rest : List ℕ) → form .takes letter ≡ true → line (only letter) (form .count) bytes ≡ found ns rest →
+      judged form ids bytes ≡ judgedEntry form ids (form .entry letter ns) rest
+  unfolding line
+  letter-entry letter ns rest known one = go (eqb (next bytes) letter) refl one
+    where
+      go :
+          (t : Bool) → eqb (next bytes) letter ≡ t →
+          (if t then ended (numbers (form .count) [] (behind bytes)) else nothing) ≡ found ns rest →
           judged form ids bytes ≡ judgedEntry form ids (form .entry letter ns) rest
-      letter-entry ns rest one = line-entry ns rest (line-letter ∙ one) ∙ rw is
+      go true is e =
+          let same : next bytes ≡ letter = eqb-true (next bytes) letter is in
+          line-entry ns rest (rw (same, known) e) ∙ rw same
+      go false is e = clash (cc)
+
+  pub no-letter :
+      ((letter : ℕ) → form .takes letter ≡ true → line (only letter) (form .count) bytes ≡ nothing) →
+      judged form ids bytes ≡ faulty LineForm
+  unfolding line
+  no-letter none = line-form (go (form .takes (next bytes)) refl)
+    where
+      go :
+          (t : Bool) → form .takes (next bytes) ≡ t →
+          (if t then ended (numbers (form .count) [] (behind bytes)) else nothing) ≡ nothing
+      go true is = rw (eq-eqb (next bytes) (next bytes) refl) at (none (next bytes) is)
+      go false is = refl
