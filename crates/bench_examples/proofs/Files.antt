@@ -10,6 +10,7 @@ use lib.ListN.{length}
 use Rattle.causes.specs.declared.Cause.the-variants.{FileLength}
 use Rattle.job_glass.specs.declared.Glass.{Glass}
 use Rattle.job_pane.specs.declared.Pane.{Pane}
+use Rattle.job_pane.specs.declared.Wind.the-variants.{ByPressure}
 use Rattle.job_line.specs.Number.{digits, number}
 use Rattle.job_line.specs.Line.{numbers, ended, line}
 use Rattle.ids.specs.Ids.{among}
@@ -52,8 +53,8 @@ glassesJ =
 
 abbrev pub panesJ : List Pane
 panesJ =
-    record { id = 1; edges = 4; angle = 30; awning = 0; top = 3000; w = 900; h = 1500; down = 60; up = 95 }
-    ∷ record { id = 2; edges = 4; angle = 10; awning = 0; top = 3000; w = 500; h = 1000; down = 60; up = 95 }
+    record { id = 1; edges = 4; angle = 30; awning = 0; top = 3000; w = 900; h = 1500; wind = ByPressure 60 95 }
+    ∷ record { id = 2; edges = 4; angle = 10; awning = 0; top = 3000; w = 500; h = 1000; wind = ByPressure 60 95 }
     ∷ []
 
 pub job-read : outcomeOf jobJ ≡ accepted glassesJ panesJ

@@ -7,3 +7,5 @@ pub mod JobC
 pub mod Examples
 -- What `canopy` prints of them.
 pub mod Texts
+-- The rows of wind classes that document 02 states.
+pub mod HouseRoofs

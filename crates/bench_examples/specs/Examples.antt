@@ -10,6 +10,7 @@ use Rattle.causes.specs.declared.Cause.the-variants.{FileLength}
 use Rattle.dead_loads.specs.DeadLoads.{maximumAt, minimumAt}
 use Rattle.job_glass.specs.declared.Glass.{Glass}
 use Rattle.job_pane.specs.declared.Pane.{Pane}
+use Rattle.job_pane.specs.declared.Wind.the-variants.{ByPressure}
 use Rattle.job_file.specs.File.{accepted, refused, outcomeOf}
 use Rattle.span_table.specs.Spans.{maxSpan}
 use Rattle.point_load.specs.LiveLoad.{liveLoad}
@@ -33,8 +34,7 @@ somePane edges top w h down = record {
   top = top;
   w = w;
   h = h;
-  down = down;
-  up = 0;
+  wind = ByPressure down 0;
 }
 
 abbrev pub someGlass : (kind thick two four : ℕ) → Glass

@@ -4,6 +4,7 @@ use mathlib.Core.List.{List, _++_}
 use Rattle.job_line.specs.Bytes.{bytesOf}
 use Rattle.job_glass.specs.declared.Glass.{Glass}
 use Rattle.job_pane.specs.declared.Pane.{Pane}
+use Rattle.job_pane.specs.declared.Wind.the-variants.{ByPressure}
 
 -- (c) One pane of four edges, with the trailer at its end.
 abbrev pub pane3000 : List ℕ
@@ -19,7 +20,7 @@ pane3001 =
 
 -- What the two files say.
 abbrev pub paneC : (h : ℕ) → Pane
-paneC h = record { id = 1; edges = 4; angle = 30; awning = 0; top = 3000; w = 1000; h = h; down = 60; up = 95 }
+paneC h = record { id = 1; edges = 4; angle = 30; awning = 0; top = 3000; w = 1000; h = h; wind = ByPressure 60 95 }
 
 abbrev pub glass8 : Glass
 glass8 = record { id = 8; kind = 2; thick = 8; w = 2400; h = 3600; two = 1; four = 20000; stock = 1 }

@@ -6,4 +6,5 @@ pub mod VerdictAnswer
 -- What follows from the definitions.
 pub mod Laws
 pub mod SightLaws
+pub mod WindLaws
 pub mod Internal

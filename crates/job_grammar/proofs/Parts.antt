@@ -11,7 +11,6 @@ use native.Mathlib.Omega.{arith}
 use native.Mathlib.Nat.{le-of-suc-le-suc}
 use lib.Dec.{T}
 use lib.ListN.{length}
-use Rattle.job_line.specs.Bytes.{next}
 use Rattle.job_part.specs.Part.{Form, whole, lines, partLines}
 use Rattle.ids.specs.Ids.{Distinct}
 use Rattle.job_part.specs.Rules.{Every, PartRules}

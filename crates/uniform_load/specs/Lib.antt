@@ -2,6 +2,7 @@
 pub mod GlassLoads
 pub mod Wind
 pub mod UniformLoad
--- What follows for panes with four edges.
+-- What follows for panes with four edges, and for panes by wind class.
 pub mod FourEdges
+pub mod AsPressures
 pub mod Internal

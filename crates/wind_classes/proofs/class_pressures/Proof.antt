@@ -9,13 +9,13 @@ near-edges : tie.Need-returns
 near-edges c =
     let s = c .before .before .before in
     let k = in-place (s .args .class) (s .pre .0) (s .pre .1) in
-    rw (eq-eqb _ 2 (c .before .if1 .taken), k .any-is, k .near-is)
+    rw (eq-eqb _ 2 (c .before .if1 .taken)) (simp (k .any-is, k .general-is, k .near-is))
 
 general : tie.Need-returns-2
 general c =
     let s = c .before .before .before in
     let k = in-place (s .args .class) (s .pre .0) (s .pre .1) in
-    rw (ne-eqb _ 2 (c .before .if1 .left), k .any-is, k .general-is)
+    rw (ne-eqb _ 2 (c .before .if1 .left)) (simp (k .any-is, k .general-is, k .near-is))
 
 pub class-pressures-spec : {M : Type 1} → statement M
 class-pressures-spec =
