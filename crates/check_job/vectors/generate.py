@@ -1,10 +1,12 @@
 """Writes the vectors of check_job: the files in data/, their names in args and their answers in stdout.
 
-Run `python3 generate.py`. Each answer is stated here from document 01 and document 02, 2026-01: the cause by hand, the offset
-as the length of what stands before the faulty line. Nothing is written where reader.py, an independent reader, answers
-otherwise. Ribbons are panes with four edges that are more than three times as long as wide, along w or along h.
+Run `python3 generate.py`. Each answer is stated here from document 01 and document 02, 2026-01 to 2026-03: the cause by hand,
+the offset as the length of what stands before the faulty line. Nothing is written where reader.py, an independent reader,
+answers otherwise. Ribbons are panes with four edges that are more than three times as long as wide, along w or along h. House
+panes have a wind class and a zone, on a `Q` line of the pane part.
 """
 import collections
+import itertools
 import pathlib
 import shutil
 import sys
@@ -28,6 +30,16 @@ def pane(id=600, edges=4, angle=30, awning=0, top=3000, w=900, h=1500, down=60, 
     return line("P", id, edges, angle, awning, top, w, h, down, up)
 
 
+def house(id=600, edges=4, angle=30, awning=0, top=3000, w=900, h=1500, wind=2, zone=1):
+    """A pane by its wind class and zone."""
+    return line("Q", id, edges, angle, awning, top, w, h, wind, zone)
+
+
+def mixed(id):
+    """A house pane of an odd id, or another pane of an even one."""
+    return house(id) if id % 2 else pane(id)
+
+
 def ribbon(id):
     """A ribbon four times as long as wide, of any id up to 1250."""
     return pane(id, w=id, h=4 * id)
@@ -42,7 +54,8 @@ def trailer(glass_at, pane_at):
 
 
 NOTES = b"Fern Street 12, canopy over the entrance\n"
-MAKE = {"glass": glass, "pane": pane}
+# the lines of the glass part, and both of the pane part
+MAKE = {"glass": glass, "pane": pane, "house": house}
 
 
 def job(glasses, panes, notes=NOTES):
@@ -127,27 +140,33 @@ def sizes():
 
 
 # a number of a line, its lowest value and the cause against one below it, its highest and the cause against one above
+PANE_LIMITS = [
+    ("id", 1, 5, 9999, 5), ("edges", 2, 5, 4, 5), ("angle", 0, 4, 74, 5), ("awning", 0, 4, 1, 5), ("top", 0, 4, 99999, 4),
+    ("w", 1, 5, 5000, 5), ("h", 1, 5, 5000, 5),
+]
 LIMITS = {
     "glass": [
         ("id", 1, 5, 9999, 5), ("kind", 1, 5, 4, 5), ("thick", 6, 5, 12, 5), ("w", 1, 5, 9999, 5), ("h", 1, 5, 9999, 5),
         ("two", 1, 5, 99999, 4), ("four", 1, 5, 99999, 4), ("stock", 0, 4, 999, 5),
     ],
-    "pane": [
-        ("id", 1, 5, 9999, 5), ("edges", 2, 5, 4, 5), ("angle", 0, 4, 74, 5), ("awning", 0, 4, 1, 5), ("top", 0, 4, 99999, 4),
-        ("w", 1, 5, 5000, 5), ("h", 1, 5, 5000, 5), ("down", 0, 4, 1000, 5), ("up", 0, 4, 1000, 5),
-    ],
+    "pane": [*PANE_LIMITS, ("down", 0, 4, 1000, 5), ("up", 0, 4, 1000, 5)],
+    "house": [*PANE_LIMITS, ("wind", 1, 5, 10, 5), ("zone", 1, 5, 2, 5)],
 }
 BETWEEN = [
     ("glass", "kind", 2, 0), ("glass", "kind", 3, 0), ("glass", "thick", 7, 5), ("glass", "thick", 8, 0),
     ("glass", "thick", 9, 5), ("glass", "thick", 10, 0), ("glass", "thick", 11, 5), ("glass", "stock", 1, 0),
     ("glass", "stock", 998, 0), ("pane", "edges", 3, 5), ("pane", "edges", 0, 5), ("pane", "edges", 24, 5),
     ("pane", "angle", 45, 0), ("pane", "angle", 90, 5), ("pane", "awning", 9, 5), ("pane", "top", 2999, 0),
-    ("pane", "down", 99999, 5), ("pane", "up", 1, 0),
+    ("pane", "down", 99999, 5), ("pane", "up", 1, 0), ("house", "edges", 3, 5), ("house", "wind", 6, 0),
+    ("house", "wind", 7, 0), ("house", "wind", 12, 5), ("house", "wind", 100, 5), ("house", "wind", 99999, 5),
+    ("house", "zone", 4, 5), ("house", "zone", 99999, 5),
     # allowed but for a multiple of 256 or 65536
     ("glass", "id", 65537, 5), ("glass", "kind", 257, 5), ("glass", "kind", 65537, 5), ("glass", "thick", 266, 5),
     ("glass", "w", 67936, 5), ("glass", "stock", 65537, 5), ("pane", "id", 65537, 5), ("pane", "edges", 260, 5),
     ("pane", "angle", 286, 5), ("pane", "awning", 256, 5), ("pane", "awning", 65537, 5), ("pane", "w", 66436, 5),
-    ("pane", "h", 67036, 5), ("pane", "up", 65536, 5),
+    ("pane", "h", 67036, 5), ("pane", "up", 65536, 5), ("house", "wind", 257, 5), ("house", "wind", 266, 5),
+    ("house", "wind", 65537, 5), ("house", "wind", 65546, 5), ("house", "zone", 257, 5), ("house", "zone", 258, 5),
+    ("house", "zone", 65537, 5), ("house", "zone", 65538, 5),
 ]
 
 
@@ -155,7 +174,7 @@ def limits():
     for part, numbers in LIMITS.items():
         for place, (number, lowest, below, highest, above) in enumerate(numbers):
             # with two edges; sides() and order() have such panes with four
-            sides = {"edges": 2} if part == "pane" and number in "wh" else {}
+            sides = {"edges": 2} if part != "glass" and number in ("w", "h") else {}
             name = f"{part}-{number}"
             good(part, f"{name}-lowest", MAKE[part](**{number: lowest}, **sides))
             good(part, f"{name}-highest", MAKE[part](**{number: highest}, **sides))
@@ -187,8 +206,6 @@ NOT_LINES = {
     "letter-and-space-only": lambda s: s[:2] + b"\n",
     "letter-only": lambda s: s[:1] + b"\n",
     "letter-twice": lambda s: s[:1] + s,
-    "letter-one-before": lambda s: bytes([s[0] - 1]) + s[1:],
-    "letter-one-after": lambda s: bytes([s[0] + 1]) + s[1:],
     "letter-with-high-bit": lambda s: bytes([s[0] + 128]) + s[1:],
     "space-in-front": lambda s: b" " + s,
     "space-at-end": lambda s: s[:-1] + b" \n",
@@ -214,26 +231,91 @@ NOT_LINES = {
 }
 
 
+# the last number of a line, and those before it that are also tried without being numbers
+SPELLED = {"glass": ("stock", ["id"]), "pane": ("up", ["id"]), "house": ("zone", ["id", "wind"])}
+
+
 def forms():
     for part, make in MAKE.items():
-        last = {"glass": "stock", "pane": "up"}[part]
+        last, others = SPELLED[part]
         for name, text in NOT_NUMBERS.items():
             bad(part, f"{part}-{last}-{name}", 4, make(**{last: text}))
-            if "digit" in name or "zero" in name:
-                bad(part, f"{part}-id-{name}", 4, make(text))
+            for other in others if "digit" in name or "zero" in name else []:
+                bad(part, f"{part}-{other}-{name}", 4, make(**{other: text}))
         for name, change in NOT_LINES.items():
             bad(part, f"{part}-{name}", 4, change(make()))
-        bad(part, f"{part}-first-line-empty", 4, b"\n", b"")
         bad(part, f"{part}-first-line-with-space-at-end", 4, make()[:-1] + b" \n", b"")
-    bad("glass", "pane-line-in-glass-part", 4, pane())
-    bad("pane", "glass-line-in-pane-part", 4, glass())
-    bad("glass", "glass-with-nine-numbers-and-letter-of-a-pane", 4, b"P" + glass()[1:-1] + b" 1\n")
-    bad("pane", "pane-with-letter-of-a-glass", 4, b"G" + pane()[1:])
+    bad("glass", "glass-first-line-empty", 4, b"\n", b"")
+    bad("pane", "pane-first-line-empty", 4, b"\n", b"")
     lines = glass(501) + glass(502)
     refused("glass-part-ends-in-empty-line", 4, NOTES + lines, job(lines + b"\n", pane()))
     refused("pane-part-ends-in-empty-line", 4, NOTES + lines + pane(), job(lines, pane() + b"\n"))
     refused("pane-part-is-one-newline", 4, NOTES + lines, job(lines, b"\n"))
     refused("glass-part-is-one-newline", 4, NOTES, job(b"\n", pane()))
+
+
+def letters():
+    """Other letters in place of a line's own. That of the one pane line makes a line of the other."""
+    for part, before, after in ("glass", 4, 4), ("pane", 4, 5), ("house", 0, 4):
+        line = MAKE[part]()
+        judged(part, f"{part}-letter-one-before", before, bytes([line[0] - 1]) + line[1:])
+        judged(part, f"{part}-letter-one-after", after, bytes([line[0] + 1]) + line[1:])
+    for letter in "CNOp":
+        bad("house", f"house-with-letter-{letter}", 4, letter.encode() + house()[1:])
+    bad("house", "house-with-both-letters", 4, b"P" + house())
+    bad("house", "house-with-letter-of-a-pane-behind", 4, house()[:1] + pane())
+    for part, letter in ("pane", b"P"), ("house", b"Q"):
+        bad("glass", f"{part}-line-in-glass-part", 4, MAKE[part]())
+        bad("glass", f"{part}-line-first-in-glass-part", 4, MAKE[part](), b"")
+        bad("glass", f"glass-with-letter-of-a-{part}", 4, letter + glass()[1:])
+        bad("glass", f"glass-with-nine-numbers-and-letter-of-a-{part}", 4, letter + glass()[1:-1] + b" 1\n")
+        bad(part, f"{part}-with-letter-of-a-glass", 4, b"G" + MAKE[part]()[1:])
+    bad("pane", "glass-line-in-pane-part", 4, glass())
+    bad("house", "glass-line-behind-houses", 4, glass())
+    refused("house-line-alone-in-glass-part", 4, NOTES, job(house(), pane()))
+
+
+# the last two numbers of a pane line, and the cause against them on that of a house pane
+WINDS = [
+    (1, 1, 0), (1, 2, 0), (10, 1, 0), (10, 2, 0), (1, 10, 5), (2, 10, 5), (10, 3, 5), (11, 2, 5), (11, 3, 5), (0, 0, 5),
+    (44, 69, 5), (60, 95, 5), (422, 998, 5), (1000, 1000, 5),
+]
+
+
+def winds():
+    """The same two numbers as class and zone, and as pressures. A class has no other name."""
+    for first, second, cause in WINDS:
+        judged("house", f"house-wind-{first}-zone-{second}", cause, house(wind=first, zone=second))
+        good("pane", f"pane-down-{first}-up-{second}", pane(down=first, up=second))
+    for number, text in ("wind", "N2"), ("wind", "C4"), ("wind", "02"), ("wind", "010"), ("wind", "1 0"), ("zone", "02"):
+        bad("house", f"house-{number}-spelled-{text.replace(' ', '-')}", 4, house(**{number: text}))
+
+
+def mixes():
+    """Both lines in one part, in any order."""
+    every = enumerate(itertools.product(range(1, 11), (1, 2)), 1)
+    lines = b"".join(house(id, wind=wind, zone=zone) for id, (wind, zone) in every)
+    accepted("houses-of-each-class-and-zone", 1, 20, job(glass(), lines))
+    for order in "Q", "QQQ", "QPP", "PPQ", "PQP", "QPQ", "QQQPPP", "PPPQQQ", "PQPQPQPQ", "QPQPQPQP", "PPQQPPQQ":
+        lines = b"".join(pane(id) if letter == "P" else house(id) for id, letter in enumerate(order, 1))
+        accepted(f"panes-{order.lower()}", 1, len(order), job(glass(), lines))
+    accepted("house-without-glasses", 0, 1, job(b"", house()))
+    accepted("house-without-glasses-or-notes", 0, 1, job(b"", house(), b""))
+    sides = [(w, h, 4) for w, h in RIBBONS] + SIDES
+    lines = b"".join(house(id, w=w, h=h, edges=edges) for id, (w, h, edges) in enumerate(sides, 1))
+    accepted("houses-of-any-sides", 1, len(sides), job(glass(), lines))
+
+
+def house_faults():
+    """A class or a zone that is not allowed: alone in its part, on the first line, between others and on the last."""
+    for name, fault in (
+        ("wind-zero", house(wind=0)), ("wind-11", house(wind=11)), ("zone-zero", house(zone=0)), ("zone-three", house(zone=3)),
+    ):
+        for place, lines, behind in (
+            ("alone", b"", b""), ("first", b"", pane(1) + house(2)), ("between", house(1) + pane(2), house(3) + pane(4)),
+            ("last", pane(1) + house(2), b""),
+        ):
+            refused(f"house-{name}-{place}", 5, NOTES + glass() + lines, job(glass(), lines + fault + behind))
 
 
 def missing_newlines():
@@ -248,6 +330,10 @@ def missing_newlines():
     refused("pane-part-without-last-newline", 4, before + pane(601), job(glass(501), panes[:-1]))
     refused("pane-part-without-any-newline", 4, before, job(glass(501), pane()[:-1]))
     refused("pane-part-is-a-letter", 4, before, job(glass(501), b"P"))
+    refused("pane-part-without-newline-of-last-house", 4, before + pane(601), job(glass(501), pane(601) + house(602)[:-1]))
+    refused("pane-part-without-newline-of-last-zone", 4, before + house(1), job(glass(501), house(1) + house(2, zone=3)[:-1]))
+    refused("pane-part-of-a-house-without-newline", 4, before, job(glass(501), house()[:-1]))
+    refused("pane-part-is-the-letter-of-a-house", 4, before, job(glass(501), b"Q"))
 
 
 def offsets():
@@ -280,6 +366,8 @@ def offsets():
     refused("pane-offset-after-first-pane", 4, body[:middle], body + trailer(start, middle + len(pane())))
     refused("pane-offset-at-trailer", 4, body[:middle], body + trailer(start, end))
     refused("pane-offset-at-glass-offset", 4, NOTES, body + trailer(start, start))
+    refused("pane-offset-after-first-house", 4, NOTES + glass(), NOTES + glass() + house(1) + house(2)
+            + trailer(start, len(NOTES + glass() + house(1))))
     refused("pane-offset-at-second-glass", 4, NOTES + glass(501), body + trailer(start, start + len(glass())))
 
 
@@ -354,13 +442,24 @@ def ids():
         bad(part, f"{part}-ids-repeated-in-turn", 6, make(701) + make(702))
         bad(part, f"{part}-id-lowest-repeated", 6, make(1), make(1) + make(2))
         bad(part, f"{part}-id-highest-repeated", 6, make(9999), make(9999))
+    # on lines of both letters, also where they differ by nothing else
+    bad("house", "house-id-of-a-pane", 6, house(702), pane(701) + pane(702))
+    bad("house", "house-id-of-first-pane", 6, house(701), pane(701) + house(702) + pane(704))
+    bad("house", "house-but-for-the-letter-a-pane", 6, house(wind=2, zone=1), pane(701) + pane(down=2, up=1))
+    bad("pane", "pane-id-of-a-house", 6, pane(702), house(701) + house(702))
+    bad("pane", "pane-id-of-first-house", 6, pane(701), house(701) + pane(702) + house(704))
+    bad("pane", "pane-but-for-the-letter-a-house", 6, pane(down=2, up=1), house(701) + house(wind=2, zone=1))
+    bad("house", "house-id-of-another-class-and-zone", 6, house(701, wind=9, zone=2))
     accepted("same-id-for-glass-and-pane", 1, 1, job(glass(77), pane(77)))
+    accepted("same-id-for-glass-and-house", 1, 1, job(glass(77), house(77)))
     accepted("same-ids-for-glasses-and-panes", 64, 64, job(many(glass, 64), many(pane, 64)))
+    accepted("same-ids-for-glasses-and-mixed-panes", 64, 64, job(many(glass, 64), many(mixed, 64)))
     accepted("ids-that-begin-alike", 3, 3, job(glass(1) + glass(11) + glass(111), pane(2) + pane(22) + pane(222)))
     apart = [1] + [1 + 2**bit for bit in range(14)]
     accepted("ids-one-bit-apart", len(apart), len(apart), job(b"".join(map(glass, apart)), b"".join(map(pane, apart))))
     accepted("ids-falling", 3, 3, job(glass(3) + glass(2) + glass(1), pane(3) + pane(2) + pane(1)))
     accepted("id-repeated-in-notes-only", 1, 1, job(glass(), pane(), glass() + pane()))
+    accepted("id-repeated-by-a-house-in-notes-only", 1, 2, job(glass(), pane() + house(601), house() + pane(601)))
     lines = many(glass, 63)
     refused("glass-id-repeated-on-last-allowed-line", 6, NOTES + lines, job(lines + glass(1), pane()))
     lines = many(pane, 255)
@@ -394,6 +493,24 @@ def counts():
         b"".join(pane(n, 4, 0, 0, 0, 1, 1, 0, 0) for n in range(1, 10)), b""))
 
 
+def house_counts():
+    """As many pane lines as there may be, of one letter and of both, and one more."""
+    panes, houses, both = many(pane, 256), many(house, 256), many(mixed, 256)
+    accepted("most-panes-all-houses", 1, 256, job(glass(), houses))
+    accepted("most-panes-mixed", 1, 256, job(glass(), both))
+    for name, lines, line in (
+        ("a-house-behind-houses", houses, house(257)), ("a-pane-behind-houses", houses, pane(257)),
+        ("a-house-behind-panes", panes, house(257)), ("a-house-behind-both", both, house(257)),
+        ("a-pane-behind-both", both, pane(257)), ("a-faulty-house", both, house(257, wind=11)),
+        ("a-house-lower-case", both, house(257).lower()), ("a-house-of-a-known-id", both, house(2)),
+    ):
+        refused(f"pane-line-257-{name}", 8, NOTES + lines, job(b"", lines + line))
+    bad("pane", "pane-line-256-a-faulty-house", 5, house(9998, zone=3), many(mixed, 255))
+    bad("pane", "pane-line-256-a-house-of-a-known-id", 6, house(2), many(mixed, 255))
+    glasses = many(glass, 64)
+    refused("glass-line-65-a-house", 8, NOTES + glasses, job(glasses + house(), pane()))
+
+
 def order():
     """The first cause of a line, and the first line with one. A ribbon is no cause."""
     lines = glass(501) + glass(502)
@@ -422,10 +539,28 @@ def order():
     bad("pane", "pane-id-repeated-on-one-line-value-on-next", 6, pane(701) + pane(angle=80))
     bad("pane", "pane-form-on-one-line-too-many-later", 4, b"P\n", many(pane, 3))
     for name, cause, fault in ("form", 4, b"G\n"), ("value", 5, glass(kind=0)), ("id-repeated", 6, glass(502)):
-        for other, line in ("pane-form", b"P\n"), ("pane-value", pane(edges=0)), ("ribbon", pane(w=1, h=4)):
+        for other, line in (
+            ("pane-form", b"P\n"), ("pane-value", pane(edges=0)), ("ribbon", pane(w=1, h=4)), ("house-zone", house(zone=3)),
+        ):
             refused(f"glass-{name}-before-{other}", cause, NOTES + lines, job(lines + fault, line))
     refused("glass-too-many-before-pane-form", 8, NOTES + many(glass, 64), job(many(glass, 65), b"P\n"))
     refused("glass-last-line-before-too-many-panes", 5, NOTES + lines, job(lines + glass(stock=1000), many(pane, 257)))
+    bad("house", "house-form-and-value", 4, house(wind=11, zone="01"))
+    bad("house", "house-value-and-newline-missing", 4, house(zone=3)[:-1])
+    bad("house", "house-form-and-id-repeated", 4, house(701)[:-1] + b" \n")
+    bad("house", "house-value-and-id-repeated", 5, house(701, angle=75))
+    bad("house", "house-wind-and-id-repeated", 5, house(701, wind=11))
+    bad("house", "house-zone-and-id-repeated", 5, house(701, zone=3))
+    bad("house", "house-zone-and-id-of-a-pane", 5, house(702, zone=0), pane(701) + pane(702))
+    bad("house", "house-pressures-and-id-of-a-pane", 5, house(702, wind=60, zone=95), pane(701) + pane(702))
+    bad("house", "house-ribbon-and-zone", 5, house(w=1, h=500, zone=3))
+    bad("house", "house-ribbon-and-id-repeated", 6, house(701, w=1, h=500))
+    bad("house", "house-wind-on-one-line-form-on-next", 5, house(wind=11) + b"Q\n")
+    bad("house", "house-form-on-one-line-wind-on-next", 4, b"Q\n" + house(wind=11))
+    bad("house", "house-id-repeated-on-one-line-zone-on-next", 6, house(701) + house(zone=3))
+    bad("house", "house-zone-on-one-line-id-repeated-on-next", 5, house(zone=3) + house(701))
+    bad("pane", "house-zone-on-one-line-pane-value-on-next", 5, house(zone=3) + pane(angle=80))
+    bad("pane", "pane-value-on-one-line-house-zone-on-next", 5, pane(angle=80) + house(zone=3))
     body = NOTES + b"G\n" + b"P\n"
     refused("offsets-before-form", 3, body, body + trailer(len(NOTES) + 2, len(NOTES)))
     refused("trailer-before-form", 2, body[:-1], body + trailer(len(NOTES), len(NOTES) + 2)[:-1])
@@ -438,6 +573,7 @@ def notes():
     for name, text in {
         "none": b"", "of-every-byte": bytes(range(256)), "of-every-byte-falling": bytes(reversed(range(256))),
         "like-lines": glass() + pane(), "like-faulty-lines": faulty, "like-a-trailer": trailer(0, 0),
+        "like-lines-of-houses": house() + house() + house(wind=0),
         "like-a-job": job(glass(1) + glass(2), pane(), b""), "like-a-trailer-without-newline": trailer(0, 0)[:-1],
         "without-newline": b"call before noon", "one-newline": b"\n", "of-zero-bytes": bytes(500), "ending-in-a-letter": b"G",
         "with-carriage-returns": b"Fern Street 12\r\n\r\n", "of-newlines": b"\n" * 99,
@@ -468,6 +604,9 @@ def write():
     print(f"{len(VECTORS)} vectors:", ", ".join(f"{kinds[kind]} {kind}" for kind in sorted(kinds)))
 
 
-for group in paper_jobs, sizes, limits, forms, missing_newlines, offsets, trailers, sides, ids, counts, order, notes:
+for group in (
+    paper_jobs, sizes, limits, forms, letters, winds, mixes, house_faults, missing_newlines, offsets, trailers, sides, ids,
+    counts, house_counts, order, notes,
+):
     group()
 write()
