@@ -1,9 +1,10 @@
 """Writes the vectors of judge_job: the job files in data/, the questions in args and their answers in stdout.
 
-Run `python3 generate.py`. Each answer is stated here from document 01, "The four clauses", and document 02, 2026-01 and
-2026-02: a pane and a glass are made so that the clause named is the first against them, or none is. Nothing is written where
+Run `python3 generate.py`. Each answer is stated here from document 01, "The four clauses", and document 02, 2026-01 to
+2026-03: a pane and a glass are made so that the clause named is the first against them, or none is. Nothing is written where
 clauses.py, a second reading of the papers, says otherwise, or where reader.py, the second reader of check_job's vectors, reads
-a file otherwise. Ribbons are panes with four edges that are more than three times as long as wide, along w or along h.
+a file otherwise. Ribbons are panes with four edges that are more than three times as long as wide, along w or along h. House
+panes have a wind class and a zone; each is judged beside the pane with their pressures.
 """
 import itertools
 import math
@@ -63,6 +64,17 @@ MINIMUM = {
     (56, 60): (7, 9, 11, 14), (61, 65): (6, 8, 10, 12), (66, 70): (5, 6, 8, 10), (71, 74): (3, 4, 5, 6),
 }
 
+# Table A2, roofs, ultimate, by column: N1 to N6 and C1 to C4, in units of 0.01 kPa. Down at any position; up by zone.
+DOWN = (44, 60, 95, 141, 207, 280, 143, 212, 312, 422)
+UP = {
+    1: (69, 95, 149, 221, 325, 439, 216, 321, 473, 639),
+    2: (125, 173, 270, 402, 591, 799, 338, 502, 739, 998),
+}
+# every class with every zone
+CLASSES = list(itertools.product(range(1, 11), (1, 2)))
+
+# what each letter's line holds
+MAKE = {letter: make for make, letter in clauses.LETTERS.items()}
 FILES = {}
 RUN = []
 JOBS = {}
@@ -71,6 +83,20 @@ JOBS = {}
 def pane(edges=4, angle=45, awning=0, top=2500, w=200, h=200, down=0, up=0):
     """A pane that every kind and thickness serves, unless the numbers given stand against it."""
     return clauses.Pane(edges, angle, awning, top, w, h, down, up)
+
+
+def house(edges=4, angle=45, awning=0, top=2500, w=200, h=200, wind=1, zone=1):
+    """The same by a wind class and a zone."""
+    return clauses.House(edges, angle, awning, top, w, h, wind, zone)
+
+
+def pressures(wind, zone):
+    return DOWN[wind - 1], UP[zone][wind - 1]
+
+
+def by_pressures(it):
+    """The pane with the pressures of a house pane."""
+    return clauses.Pane(*it[:6], *pressures(it.wind, it.zone))
 
 
 def glass(kind=3, thick=10, w=9999, h=9999, two=MOST, four=MOST, stock=1):
@@ -82,13 +108,17 @@ def covering(it, kind=3, thick=10, **numbers):
     return glass(kind, thick, it.w + TWO_COVERS[thick], it.h + TWO_COVERS[thick], **numbers)
 
 
-def lines(letter, entries):
-    return "".join(" ".join(map(str, (letter, id, *numbers))) + "\n" for id, numbers in entries).encode()
+def letter(it):
+    return clauses.LETTERS[type(it)]
+
+
+def lines(entries):
+    return "".join(" ".join(map(str, (letter(it), id, *it))) + "\n" for id, it in entries).encode()
 
 
 def file_of(notes, glasses, panes):
     """The bytes of a job with these notes, glasses and panes, each of which comes with its id."""
-    notes, glasses, panes = notes.encode(), lines("G", glasses), lines("P", panes)
+    notes, glasses, panes = notes.encode(), lines(glasses), lines(panes)
     return notes + glasses + panes + b"T %05d %05d\n" % (len(notes), len(notes + glasses))
 
 
@@ -104,9 +134,10 @@ def spelled(verdict):
     return f"fails {verdict}" if verdict else "passes"
 
 
-def entries(part, make):
-    """The numbers of each line by its id."""
-    return {int(line.split()[1]): make(*map(int, line.split()[2:])) for line in part.splitlines()}
+def entries(part):
+    """What each line holds, by its id."""
+    words = [line.split() for line in part.decode().splitlines()]
+    return {int(id): MAKE[letter](*map(int, numbers)) for letter, id, *numbers in words}
 
 
 def second_answers(file, ids):
@@ -115,8 +146,7 @@ def second_answers(file, ids):
     if answer.startswith("refused"):
         return [f"{p} {g} {answer}" for p, g in zip(ids[::2], ids[1::2])] if ids else [answer]
     glass_at, pane_at = int(file[-12:-7]), int(file[-6:-1])
-    glasses = entries(file[glass_at:pane_at], clauses.Glass)
-    panes = entries(file[pane_at:-14], clauses.Pane)
+    glasses, panes = entries(file[glass_at:pane_at]), entries(file[pane_at:-14])
     questions = zip(ids[::2], ids[1::2]) if ids else [(p, g) for p in panes for g in glasses]
     return [
         f"{p} {g} " + ("refused 10 0" if p not in panes else "refused 11 0" if g not in glasses
@@ -140,25 +170,27 @@ def run_words(name, words, answers):
 
 
 class Job:
-    """A job that grows by questions. Its panes have the ids from 1 on, its glasses those from 501 on."""
+    """A job that grows by questions. Its panes have the ids from 1 on, its glasses those from 501 on. It holds a pane with its
+    letter: panes of both letters may have the same numbers."""
 
     def __init__(self, name):
         self.name, self.panes, self.glasses, self.verdicts = name, {}, {}, {}
 
     def has_room(self, pane, glass):
-        return (pane in self.panes or len(self.panes) < 256) and (glass in self.glasses or len(self.glasses) < 64)
+        has_pane, has_glass = (letter(pane), pane) in self.panes, glass in self.glasses
+        return (has_pane or len(self.panes) < 256) and (has_glass or len(self.glasses) < 64)
 
     def ask(self, verdict, pane, glass):
         found = clauses.verdict(pane, glass)
         if found != verdict:
             raise SystemExit(f"{self.name}: stated {spelled(verdict)}, but clauses.py {spelled(found)}: {pane}, {glass}")
-        pane_id = self.panes.setdefault(pane, 1 + len(self.panes))
+        pane_id = self.panes.setdefault((letter(pane), pane), 1 + len(self.panes))
         glass_id = self.glasses.setdefault(glass, 501 + len(self.glasses))
         self.verdicts[pane_id, glass_id] = verdict
 
     def put(self):
         """Runs the file with the ids of its questions, or with none where every pair is one."""
-        glasses, panes = [(id, it) for it, id in self.glasses.items()], [(id, it) for it, id in self.panes.items()]
+        glasses, panes = [(id, it) for it, id in self.glasses.items()], [(id, it) for (_, it), id in self.panes.items()]
         put(self.name, f"accepted {len(glasses)} {len(panes)}", file_of(self.name + "\n", glasses, panes))
         asked = sorted(self.verdicts)
         ids = [] if len(asked) == len(glasses) * len(panes) else [id for question in asked for id in question]
@@ -166,11 +198,13 @@ class Job:
 
 
 def ask(group, verdict, pane, glass):
-    """Puts a question in the last job of the group, or in a new one where that is full."""
-    jobs = JOBS.setdefault(group, [])
-    if not jobs or not jobs[-1].has_room(pane, glass):
-        jobs.append(Job(f"{group}-{len(jobs) + 1}.job" if jobs else f"{group}.job"))
-    jobs[-1].ask(verdict, pane, glass)
+    """Puts a question in the last job of the group, or in a new one where that is full. One on a house pane is also put on the
+    pane with its pressures."""
+    for it in [pane, by_pressures(pane)] if isinstance(pane, clauses.House) else [pane]:
+        jobs = JOBS.setdefault(group, [])
+        if not jobs or not jobs[-1].has_room(it, glass):
+            jobs.append(Job(f"{group}-{len(jobs) + 1}.job" if jobs else f"{group}.job"))
+        jobs[-1].ask(verdict, it, glass)
 
 
 def by_edges(edges, constant, other, **numbers):
@@ -179,11 +213,16 @@ def by_edges(edges, constant, other, **numbers):
     return glass(two=two, four=four, **numbers)
 
 
+def least_constant(span, pressure):
+    """The least constant that bears P over a span."""
+    return math.isqrt(span * span * pressure - 1) + 1
+
+
 def pin(group, pressure, pane, **numbers):
     """P is this and nothing else: the least constant that bears it does not bear one more, and one below it bears one less.
     The constant for other edges would turn each answer."""
     span = pane.w if pane.edges == 2 else min(pane.w, pane.h)
-    least = math.isqrt(span * span * pressure - 1) + 1
+    least = least_constant(span, pressure)
     if not (least ** 2 < span ** 2 * (pressure + 1) and (least - 1) ** 2 >= span ** 2 * (pressure - 1)):
         raise SystemExit(f"{group}: a span of {span} does not tell P {pressure} from its neighbours")
     ask(group, 0, pane, by_edges(pane.edges, least, 1, **numbers))
@@ -788,6 +827,99 @@ def sight_proportions():
             ask("sight-proportion", verdict, it._replace(w=longer, h=shorter), sheet)
 
 
+# the classes and zones in which the wind down gives P at some angle and thickness; the wind up does so in all
+DOWN_GIVES_P = [(1, 1), (1, 2), (2, 1), (2, 2), (3, 1), (4, 1), (5, 1), (7, 1), (8, 1)]
+
+
+def dead_load(table, angle, thick):
+    return next(loads[THICK.index(thick)] for (first, last), loads in table.items() if first <= angle <= last)
+
+
+def house_winds():
+    """P of each class and zone in each thickness, by the wind down and by the wind up where these give it: with four edges at
+    the least such angle, and with two at the greatest."""
+    given = {"down": set(), "up": set()}
+    for (wind, zone), thick in itertools.product(CLASSES, THICK):
+        down, up = pressures(wind, zone)
+        downward = [down + dead_load(MAXIMUM, angle, thick) for angle in range(75)]
+        upward = [up - dead_load(MINIMUM, angle, thick) for angle in range(75)]
+        for name, ones, others in ("down", downward, upward), ("up", upward, downward):
+            angles = [angle for angle in range(75) if ones[angle] > others[angle]]
+            for edges, angle in ((4, angles[0]), (2, angles[-1])) if angles else []:
+                given[name].add((wind, zone))
+                w, h = TWO_EDGES[wind % 3] if edges == 2 else FOUR_EDGES[(wind + thick // 2) % 5]
+                it = house(edges, angle, w=w, h=h, wind=wind, zone=zone)
+                pin(f"house-{name}-edges-{edges}", ones[angle], it, kind=3 + zone % 2, thick=thick)
+    if given != {"down": set(DOWN_GIVES_P), "up": set(CLASSES)}:
+        raise SystemExit(f"houses: P is given by {given}")
+
+
+def house_figures():
+    """Where the wind down gives no P, no verdict shows it. So the figures of both readings are compared too."""
+    for wind, zone in CLASSES:
+        if clauses.wind(house(wind=wind, zone=zone)) != pressures(wind, zone):
+            raise SystemExit(f"houses: class {wind} in zone {zone} is read in two ways")
+
+
+def house_orders():
+    """Each class and zone with a glass that passes, and with one that fails by each clause. Under 1.8 kN, laminated toughened
+    glass spans 1400 at 8 mm, and 350 at 6."""
+    for wind, zone in CLASSES:
+        it = house(awning=1, top=3000, w=1000, h=1000, wind=wind, zone=zone)
+        sheet = covering(it, thick=8)
+        for verdict, other in (
+            (0, sheet), (1, sheet._replace(kind=4)), (2, sheet._replace(h=sheet.h - 1)), (3, sheet._replace(thick=6)),
+            (4, sheet._replace(four=1)),
+        ):
+            ask("house-order", verdict, it, other)
+
+
+def house_numbers():
+    """The numbers of a class and a zone are small pressures on the line of another pane: at 45 degrees, 10 mm has a maximum of
+    67 and a minimum of 15. What bears them does not bear the class."""
+    for wind, zone in CLASSES:
+        pin("house-numbers", 67 + wind, pane(down=wind, up=zone))
+        ask("house-numbers", 4, house(wind=wind, zone=zone), by_edges(4, least_constant(200, 67 + wind), 1))
+
+
+# class and zone, a thickness, and P at 45 degrees: by the wind down in the first three
+HOUSES = [(1, 1, 8, 98), (2, 1, 12, 140), (7, 1, 10, 210), (3, 2, 10, 255), (7, 1, 6, 207), (10, 2, 12, 980)]
+
+
+def house_ribbons():
+    """House panes as ribbons, on sheets of their cut size: P, and the spans of the two-edge column."""
+    for wind, zone, thick, pressure in HOUSES:
+        for w, h in (200, 800), (900, 240):
+            sheet = dict(w=w + TWO_COVERS[thick], h=h + TWO_COVERS[thick])
+            pin("house-ribbon", pressure, house(w=w, h=h, wind=wind, zone=zone), thick=thick, **sheet)
+    # laminated annealed glass of 12 mm spans 700 with two edges, and 1900 with AR=3
+    for w, h, verdict in (700, 2101, 0), (2101, 700, 0), (701, 2103, 0), (701, 2104, 3), (2104, 701, 3):
+        it = house(w=w, h=h, wind=8, zone=2)
+        ask("house-ribbon", verdict, it, covering(it, 1, 12))
+
+
+def house_cut_sizes():
+    """Clause 2 of house panes in each thickness."""
+    for thick, (wind, zone) in zip(THICK, ((1, 2), (6, 1), (7, 2), (10, 1))):
+        for edges in 2, 4:
+            it = house(edges, w=240, h=300, wind=wind, zone=zone)
+            covered_or_not("house-cut-size", 0, it, covering(it, thick=thick))
+
+
+def most_houses():
+    """256 pane lines: panes with the pressures of each class and zone, and the house panes themselves, in turn. At 74 degrees,
+    6 mm has a maximum of 19 and a minimum of 3, so the wind up gives P. The last panes are asked with glasses that just bear
+    it, and with glasses that do not."""
+    houses = [house(angle=74, wind=wind, zone=zone) for wind, zone in CLASSES]
+    panes = [(n + 1, houses[n // 2 % 20] if n % 2 else by_pressures(houses[n // 2 % 20])) for n in range(256)]
+    least = [least_constant(200, UP[zone][wind - 1] - 3) for wind, zone in CLASSES]
+    constants = least + [constant - 1 for constant in least]
+    glasses = [(n + 1, glass(thick=6, two=1, four=constant)) for n, constant in enumerate(constants)]
+    put("most-houses.job", "accepted 40 256", file_of("most houses\n", glasses, panes))
+    asked = [(n + 1, n // 2 % 20 + 1 + more, verdict) for n in range(216, 256) for more, verdict in ((0, 0), (20, 4))]
+    run("most-houses.job", [id for p, g, _ in asked for id in (p, g)], [f"{p} {g} {spelled(it)}" for p, g, it in asked])
+
+
 def paper_job():
     """The job of document 01, with no ids: every pane with every glass, in file order."""
     put("canopy.job", "accepted 2 2", (CRATE.parent.parent / "examples" / "canopy.job").read_bytes())
@@ -802,16 +934,18 @@ GLASS_IDS = (5, 66, 1, 261, 7, 9999, 777)
 
 
 def every_pair():
-    panes = [(id, pane(w=100 * n, h=100 * n)) for n, id in enumerate(PANE_IDS, 1)]
+    """Of panes alone, and of house panes and others in turn."""
     glasses = [(id, glass(w=100 * n + 16, h=100 * n + 16)) for n, id in enumerate(GLASS_IDS, 1)]
-    put("ids.job", "accepted 7 7", file_of("ids\n", glasses, panes))
     answers = {
         (p, g): f"{p} {g} {spelled(0 if n <= m else 2)}"
         for n, p in enumerate(PANE_IDS) for m, g in enumerate(GLASS_IDS)
     }
-    run("ids.job", [], list(answers.values()))
     asked = sorted(answers)
-    run("ids.job", [id for question in asked for id in question], [answers[question] for question in asked])
+    for name, makes in ("ids", (pane, pane)), ("house-ids", (pane, house)):
+        panes = [(id, makes[n % 2](w=100 * n, h=100 * n)) for n, id in enumerate(PANE_IDS, 1)]
+        put(f"{name}.job", "accepted 7 7", file_of(f"{name}\n", glasses, panes))
+        run(f"{name}.job", [], list(answers.values()))
+        run(f"{name}.job", [id for question in asked for id in question], [answers[question] for question in asked])
 
 
 def unknown_ids():
@@ -824,7 +958,8 @@ def unknown_ids():
         asked += [(5, id, 11), (9999, id, 11)]
     asked += [(0, 0, 10), (0, 9999, 10), (9999, 0, 11), (99999, 99999, 10)]
     words = [id for p, g, _ in asked for id in (p, g)]
-    run("ids.job", words, [f"{p} {g} refused {number} 0" for p, g, number in asked])
+    for name in "ids.job", "house-ids.job":
+        run(name, words, [f"{p} {g} refused {number} 0" for p, g, number in asked])
 
 
 def wrong_ids():
@@ -876,20 +1011,29 @@ def most_bytes():
 
 def refused_files():
     """A refused file has no other answer, whatever the ids. A ribbon is no cause."""
-    sheet, window = lines("G", [(1, glass())]), lines("P", [(1, pane())])
+    sheet, window = lines([(1, glass())]), lines([(1, pane())])
     body, behind = sheet + window, len(sheet)
 
     def trailer(file, glass_at, pane_at):
         return file + b"T %05d %05d\n" % (glass_at, pane_at)
 
-    steep, ribbon = lines("P", [(2, pane(angle=75))]), lines("P", [(2, pane(w=100, h=301))])
-    panes = lines("P", [(id, pane()) for id in range(1, 257)])
-    for cause, offset, file in (
-        (1, 0, b"T 00000 0000\n"), (2, len(body), body + b"T 00000 000xx\n"), (3, len(body), trailer(body, behind, 0)),
-        (4, len(body), trailer(body + b"P 2\n", 0, behind)), (5, len(body), trailer(body + steep, 0, behind)),
-        (6, len(body), trailer(body + window, 0, behind)), (8, len(sheet + panes), trailer(sheet + panes + ribbon, 0, behind)),
+    def behind_body(*entry):
+        return trailer(body + lines([entry]), 0, behind)
+
+    ribbon, panes = lines([(2, pane(w=100, h=301))]), lines([(id, pane()) for id in range(1, 257)])
+    for name, cause, offset, file in (
+        ("cause-1", 1, 0, b"T 00000 0000\n"), ("cause-2", 2, len(body), body + b"T 00000 000xx\n"),
+        ("cause-3", 3, len(body), trailer(body, behind, 0)), ("cause-4", 4, len(body), trailer(body + b"P 2\n", 0, behind)),
+        ("cause-5", 5, len(body), behind_body(2, pane(angle=75))), ("cause-6", 6, len(body), behind_body(1, pane())),
+        ("cause-8", 8, len(sheet + panes), trailer(sheet + panes + ribbon, 0, behind)),
+        ("house-wind-11", 5, len(body), behind_body(2, house(wind=11))),
+        ("house-zone-3", 5, len(body), behind_body(2, house(zone=3))),
+        ("house-of-pressures", 5, len(body), behind_body(2, house(wind=60, zone=95))),
+        ("house-id-of-a-pane", 6, len(body), behind_body(1, house())),
+        ("house-lower-case", 4, len(body), trailer(body + lines([(2, house())]).lower(), 0, behind)),
+        ("house-among-glasses", 4, len(sheet), trailer(sheet + lines([(2, house())]), 0, len(sheet + lines([(2, house())])))),
     ):
-        name, answer = f"cause-{cause}.job", f"refused {cause} {offset}"
+        name, answer = f"{name}.job", f"refused {cause} {offset}"
         put(name, answer, file)
         run(name, [], [answer])
         run(name, [1, 1, 0, 0, 9999, 1, 1, 9999], [f"{pair} {answer}" for pair in ("1 1", "0 0", "9999 1", "1 9999")])
@@ -924,13 +1068,14 @@ for group in (
     spans, columns, dead_loads, kinds, sizes, roots, orders, winds, live_loads, limits, stocks, ribbon_spans, ribbon_columns,
     ribbon_sides, ribbon_live_loads, ribbon_sizes, ribbon_roots, ribbon_winds, ribbon_constants, ribbon_orders, ribbon_limits,
     cut_sizes, cut_size_ways, cut_size_most, cut_size_least, cut_size_thicknesses, cut_size_fields, cut_size_orders,
-    sight_spans, sight_uniform_loads, sight_proportions,
+    sight_spans, sight_uniform_loads, sight_proportions, house_winds, house_figures, house_orders, house_numbers, house_ribbons,
+    house_cut_sizes,
 ):
     group()
 paper_job()
 for jobs in JOBS.values():
     for job in jobs:
         job.put()
-for group in every_pair, unknown_ids, wrong_ids, empty_parts, most_lines, most_bytes, refused_files, no_files:
+for group in every_pair, unknown_ids, wrong_ids, empty_parts, most_lines, most_houses, most_bytes, refused_files, no_files:
     group()
 write()
