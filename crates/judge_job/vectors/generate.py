@@ -921,10 +921,14 @@ def most_houses():
 
 
 def paper_job():
-    """The job of document 01, with no ids: every pane with every glass, in file order."""
-    put("canopy.job", "accepted 2 2", (CRATE.parent.parent / "examples" / "canopy.job").read_bytes())
-    run("canopy.job", [], ["1 9 passes", "1 7 passes", "2 9 passes", "2 7 fails 3"])
-    run("canopy.job", [2, 7, 1, 7, 7, 2, 2, 1], ["2 7 fails 3", "1 7 passes", "7 2 refused 10 0", "2 1 refused 11 0"])
+    """The job of document 01, with no ids: every pane with every glass, in file order. Its pressures are those of N2 in zone 1,
+    so it is also run by that."""
+    canopy = (CRATE.parent.parent / "examples" / "canopy.job").read_bytes()
+    houses = canopy.replace(b"P", b"Q").replace(b" 60 95\n", b" 2 1\n")
+    for name, file in ("canopy.job", canopy), ("canopy-houses.job", houses):
+        put(name, "accepted 2 2", file)
+        run(name, [], ["1 9 passes", "1 7 passes", "2 9 passes", "2 7 fails 3"])
+        run(name, [2, 7, 1, 7, 7, 2, 2, 1], ["2 7 fails 3", "1 7 passes", "7 2 refused 10 0", "2 1 refused 11 0"])
 
 
 # ids that begin alike, that differ by a multiple of 256 and that stand in no order; pane n fits into the glasses from n on, the

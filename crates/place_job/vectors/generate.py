@@ -1,9 +1,10 @@
 """Writes the vectors of place_job: the job files in data/, their names in args and what is due of each in stdout.
 
 Run `python3 generate.py`. Each job is made so that a full placing of it exists, or a short group, and that is stated here from
-document 01 and document 02, 2026-01 and 2026-02. Nothing is written where placing.py, which finds the one or the other by the
+document 01 and document 02, 2026-01 to 2026-03. Nothing is written where placing.py, which finds the one or the other by the
 verdicts of judge_job's clauses.py, says otherwise, or where reader.py of check_job's vectors reads a file otherwise. Ribbons
-are panes with four edges that are more than three times as long as wide, along w or along h.
+are panes with four edges that are more than three times as long as wide, along w or along h. House panes have a wind class and
+a zone.
 """
 import pathlib
 import random
@@ -28,12 +29,18 @@ def pane(edges=4, angle=45, awning=0, top=2500, w=200, h=200, down=0, up=0):
     return clauses.Pane(edges, angle, awning, top, w, h, down, up)
 
 
+def house(edges=4, angle=45, awning=0, top=2500, w=200, h=200, wind=1, zone=1):
+    """The same by a wind class and a zone."""
+    return clauses.House(edges, angle, awning, top, w, h, wind, zone)
+
+
 def glass(stock=1, kind=3, thick=10, w=2400, h=3600, two=MOST, four=MOST):
     return clauses.Glass(kind, thick, w, h, two, four, stock)
 
 
-def lines(letter, ids, entries):
-    return "".join(" ".join(map(str, (letter, id, *numbers))) + "\n" for id, numbers in zip(ids, entries, strict=True)).encode()
+def lines(ids, entries):
+    words = [(clauses.LETTERS[type(it)], id, *it) for id, it in zip(ids, entries, strict=True)]
+    return "".join(" ".join(map(str, line)) + "\n" for line in words).encode()
 
 
 def file_of(notes, glass_lines, pane_lines):
@@ -71,7 +78,7 @@ def job(name, due, glasses, panes, glass_ids=None, pane_ids=None, chain=None):
     hold(name, due, glasses, panes, chain)
     glass_ids = glass_ids or range(501, 501 + len(glasses))
     pane_ids = pane_ids or range(1, 1 + len(panes))
-    file = file_of(name + "\n", lines("G", glass_ids, glasses), lines("P", pane_ids, panes))
+    file = file_of(name + "\n", lines(glass_ids, glasses), lines(pane_ids, panes))
     put(name, due, f"accepted {len(glasses)} {len(panes)}", file)
 
 
@@ -102,7 +109,7 @@ def paper_jobs():
     put("paper", "full", "accepted 2 2", file)
     glasses = [glass(1, 1, 12, 2400, 3600, 21304, 23857), glass(1, 1, 10, 2400, 3600, 17976, 20130)]
     panes = [pane(4, 30, 0, 3000, 900, 1500, 60, 95), pane(4, 10, 0, 3000, 500, 1000, 60, 95)]
-    if file != file_of("", lines("G", (9, 7), glasses), lines("P", (1, 2), panes)):
+    if file != file_of("", lines((9, 7), glasses), lines((1, 2), panes)):
         raise SystemExit("paper: not the example of document 01")
     hold("paper", "full", glasses, panes, chain=2)
     job("paper-panes-reversed", "full", glasses, panes[::-1], (9, 7), (2, 1))
@@ -157,13 +164,14 @@ def shortages():
 
 
 def clauses_alone():
-    """A rack of which each clause alone keeps a pane away."""
+    """A rack of which each clause alone keeps a pane away, by its pressures and by its wind class."""
     sheet = glass(9, kind=4, two=4000)
-    panes = [pane(top=3000), pane(w=1300, h=3585), pane(edges=2, awning=1, w=301), pane(edges=2, w=500), pane()]
-    failing = [[number for number, fails in enumerate(clauses.CLAUSES, 1) if fails(it, sheet)] for it in panes]
-    if failing != [[1], [2], [3], [4], []]:
-        raise SystemExit(f"no-glass-by-each-clause: fails by {failing}")
-    job("no-glass-by-each-clause", "short", [sheet], panes)
+    for name, make in ("no-glass-by-each-clause", pane), ("no-glass-by-each-clause-for-houses", house):
+        panes = [make(top=3000), make(w=1300, h=3585), make(edges=2, awning=1, w=301), make(edges=2, w=500), make()]
+        failing = [[number for number, fails in enumerate(clauses.CLAUSES, 1) if fails(it, sheet)] for it in panes]
+        if failing != [[1], [2], [3], [4], []]:
+            raise SystemExit(f"{name}: fails by {failing}")
+        job(name, "short", [sheet], panes)
 
 
 def is_ribbon(it):
@@ -299,9 +307,10 @@ def random_runs():
         runs(f"runs-{seed}-short", "short", stocks, intervals, order, **ids)
 
 
-def random_roof(name, dice, glass_count, pane_count, most, sides):
+def random_roof(name, dice, glass_count, pane_count, most, sides, houses=False):
     """A rack with up to `most` sheets of a glass and a roof of panes with these sides, as a glazier has them, by all four
-    clauses: each pane has a passing glass in stock, there are more sheets than panes, and first fit leaves a pane with none."""
+    clauses: each pane has a passing glass in stock, there are more sheets than panes, and first fit leaves a pane with none.
+    Every other pane may be a house pane."""
     glasses = [
         glass(dice.randrange(most + 1), dice.randrange(1, 5), dice.choice((6, 8, 10, 12)), dice.choice((1200, 1800, 2400)),
               dice.choice((1800, 2400, 3600)), dice.randrange(12000, 30000), dice.randrange(15000, 34000))
@@ -312,6 +321,8 @@ def random_roof(name, dice, glass_count, pane_count, most, sides):
         it = pane(dice.choice((2, 4, 4, 4)), dice.choice((5, 15, 29, 30, 45, 60)), int(dice.random() < 0.05),
                   dice.choice((2400, 2999, 3000, 4500)), dice.choice(sides), dice.choice(sides),
                   dice.randrange(0, 150, 5), dice.randrange(0, 250, 5))
+        if houses and len(panes) % 2:
+            it = house(*it[:6], dice.randrange(1, 11), dice.randrange(1, 3))
         if any(glasses[place].stock for place in rows_of(glasses, [it])[0]):
             panes.append(it)
     rack = [it.stock for it in glasses]
@@ -351,26 +362,41 @@ def ids():
 
 def refused_files():
     """A file for each cause that a file can have. Their good lines are a job that could be placed. A ribbon is no cause."""
-    sheets, panes = lines("G", (1, 2), [glass(), glass()]), lines("P", (1, 2), [pane(), pane()])
+    sheets, panes = lines((1, 2), [glass(), glass()]), lines((1, 2), [pane(), pane()])
     body, behind = sheets + panes, len(sheets)
 
     def trailer(file, glass_at, pane_at):
         return file + b"T %05d %05d\n" % (glass_at, pane_at)
 
-    again, steep = lines("P", (1,), [pane()]), lines("P", (3,), [pane(angle=75)])
-    ribbon = lines("P", (3,), [pane(w=100, h=301)])
-    many = lines("P", range(1, 257), [pane()] * 256)
-    for cause, offset, file in (
-        (1, 0, b"T 00000 0000\n"), (2, len(body), body + b"T 00000 000xx\n"), (3, len(body), trailer(body, behind, 0)),
-        (4, len(body), trailer(body + b"P 3\n", 0, behind)), (5, len(body), trailer(body + steep, 0, behind)),
-        (6, len(body), trailer(body + again, 0, behind)), (8, len(sheets + many), trailer(sheets + many + ribbon, 0, behind)),
+    def behind_body(id, it):
+        return trailer(body + lines((id,), [it]), 0, behind)
+
+    ribbon, good_house = lines((3,), [pane(w=100, h=301)]), lines((3,), [house()])
+    many = lines(range(1, 257), [pane()] * 256)
+    for name, cause, offset, file in (
+        ("cause-1", 1, 0, b"T 00000 0000\n"), ("cause-2", 2, len(body), body + b"T 00000 000xx\n"),
+        ("cause-3", 3, len(body), trailer(body, behind, 0)), ("cause-4", 4, len(body), trailer(body + b"P 3\n", 0, behind)),
+        ("cause-5", 5, len(body), behind_body(3, pane(angle=75))), ("cause-6", 6, len(body), behind_body(1, pane())),
+        ("cause-8", 8, len(sheets + many), trailer(sheets + many + ribbon, 0, behind)),
+        ("house-wind-0", 5, len(body), behind_body(3, house(wind=0))),
+        ("house-wind-11", 5, len(body), behind_body(3, house(wind=11))),
+        ("house-zone-3", 5, len(body), behind_body(3, house(zone=3))),
+        ("house-of-pressures", 5, len(body), behind_body(3, house(wind=60, zone=95))),
+        ("house-id-of-a-pane", 6, len(body), behind_body(1, house())),
+        ("house-lower-case", 4, len(body), trailer(body + good_house.lower(), 0, behind)),
+        ("house-among-glasses", 4, len(sheets), trailer(sheets + good_house + panes, 0, len(sheets + good_house))),
+        ("house-on-line-257", 8, len(sheets + many), trailer(sheets + many + good_house, 0, behind)),
     ):
-        put(f"cause-{cause}", f"refused {cause} {offset}", f"refused {cause} {offset}", file)
+        put(name, f"refused {cause} {offset}", f"refused {cause} {offset}", file)
     # the ribbon is a third pane: two sheets do not go round, and three do
     roof = [pane(), pane(), pane(w=100, h=301)]
     hold("ribbon-as-third-pane", "short", [glass(), glass()], roof)
     put("ribbon-as-third-pane", "short", "accepted 2 3", trailer(body + ribbon, 0, behind))
     job("ribbon-as-third-pane-on-three-sheets", "full", [glass(), glass(2)], roof)
+    # so is a house pane
+    hold("house-as-third-pane", "short", [glass(), glass()], [pane(), pane(), house()])
+    put("house-as-third-pane", "short", "accepted 2 3", trailer(body + good_house, 0, behind))
+    job("house-as-third-pane-on-three-sheets", "full", [glass(), glass(2)], [pane(), pane(), house()])
 
 
 # thickness and sides of sheets that just cover a pane of 600 by 900
@@ -422,6 +448,184 @@ def cover_roofs():
         job(name, "full", larger, panes, **ids)
 
 
+def is_house(it):
+    return isinstance(it, clauses.House)
+
+
+def by_pressures(it):
+    """A house pane with its pressures instead, which judge_job's generator compares with figures of its own; any other pane as
+    it is."""
+    return pane(*it[:6], *clauses.wind(it)) if is_house(it) else it
+
+
+# Four misreadings of a house pane. No class is above the last or below the first.
+
+
+def other_zone(it):
+    return it._replace(zone=3 - it.zone)
+
+
+def class_above(it):
+    return it._replace(wind=min(it.wind + 1, 10))
+
+
+def class_below(it):
+    return it._replace(wind=max(it.wind - 1, 1))
+
+
+def numbers_as_pressures(it):
+    return pane(*it)
+
+
+def tell(name, due, glasses, panes, misreadings):
+    """Of a job of which this is due, the other would be if its house panes were misread in one of these ways."""
+    other = {"full": "short", "short": "full"}[due]
+    for misread in misreadings:
+        hold(f"{name}, {misread.__name__}", other, glasses, [misread(it) if is_house(it) else it for it in panes])
+
+
+def houses(name, due, glasses, panes, misreadings=(), **more):
+    """A job with house panes that tells of these misreadings, and the same job by pressures."""
+    job(name, due, glasses, panes, **more)
+    job(f"{name}-by-pressures", due, glasses, [by_pressures(it) for it in panes], **more)
+    tell(name, due, glasses, panes, misreadings)
+
+
+# Classes and zones by rising P at an angle and in a thickness, with the least constant that bears it over a span of 1000. At 74
+# degrees, 6 mm has a maximum of 19 and a minimum of 3, and P is 3 less than the wind up in every class and zone. At 0 degrees,
+# 12 mm has a maximum of 114 and a minimum of 26, and P is 114 more than the wind down in these.
+BY_UP = 74, 6, [
+    (1, 1, 8125), (2, 1, 9592), (1, 2, 11046), (3, 1, 12084), (2, 2, 13039), (7, 1, 14595), (4, 1, 14765), (3, 2, 16341),
+    (8, 1, 17833), (5, 1, 17945), (7, 2, 18304), (4, 2, 19975), (6, 1, 20881), (9, 1, 21680), (8, 2, 22339), (5, 2, 24249),
+    (10, 1, 25220), (9, 2, 27130), (6, 2, 28214), (10, 2, 31544),
+]
+BY_DOWN = 0, 12, [
+    (1, 2, 12570), (2, 2, 13191), (3, 1, 14457), (4, 1, 15969), (7, 1, 16032), (5, 1, 17917), (8, 1, 18056),
+]
+NAMES = ("n1", "n2", "n3", "n4", "n5", "n6", "c1", "c2", "c3", "c4")
+
+
+def rising_rack(ladder):
+    """The sheet at a place bears the classes up to its own. From place to place the sheets are less long."""
+    _, thick, steps = ladder
+    sheet = glass(thick=thick, w=1000 + 2 * clauses.EDGE_COVER[thick], h=2950 + 2 * clauses.EDGE_COVER[thick])
+    return [sheet._replace(h=sheet.h - 100 * place, four=constant) for place, (_, _, constant) in enumerate(steps)]
+
+
+def rising_house(ladder, first, last):
+    """A house pane of the class and zone at `first` that the sheets from there to `last` suit, and no others."""
+    angle, _, steps = ladder
+    wind, zone, _ = steps[first]
+    return house(angle=angle, w=1000, h=2950 - 100 * last, wind=wind, zone=zone)
+
+
+def every_class():
+    """Each class and zone with the sheet that alone suits it: this roof is short as soon as one of them is taken for a stronger
+    one. And each by itself with a sheet that bears a little less: this is full if it is taken for a weaker one."""
+    for direction, ladder in ("up", BY_UP), ("down", BY_DOWN):
+        rack, steps = rising_rack(ladder), ladder[2]
+        roof = [rising_house(ladder, place, place) for place in range(len(steps))]
+        if rows_of(rack, roof) != [[place] for place in range(len(steps))]:
+            raise SystemExit(f"houses-{direction}: the panes do not suit the sheets that were meant")
+        houses(f"houses-{direction}", "full", rack, roof)
+        places = {(wind, zone): place for place, (wind, zone, _) in enumerate(steps)}
+        for place, it in enumerate(roof):
+            name = f"house-{direction}-{NAMES[it.wind - 1]}-zone-{it.zone}"
+            less = rack[place]._replace(four=rack[place].four - 1)
+            job(name, "short", [less], [it])
+            tell(name, "short", [less], [it], [numbers_as_pressures])
+            for misread in other_zone, class_above, class_below:
+                taken_for = places.get(misread(it)[6:], place)
+                if taken_for < place:
+                    tell(name, "short", [less], [it], [misread])
+                if taken_for > place:
+                    hold(f"houses, {name}, {misread.__name__}", "short", rack, roof[:place] + [misread(it)] + roof[place + 1:])
+
+
+def house_chains():
+    """Pane n suits the sheets n and n+1, and the last pane the first sheet alone: all the others move over. All of them are
+    house panes, or every other one."""
+    for direction, ladder in ("up", BY_UP), ("down", BY_DOWN):
+        rack, count = rising_rack(ladder), len(ladder[2])
+        roof = [rising_house(ladder, place, place + 1) for place in range(count - 1)] + [rising_house(ladder, 0, 0)]
+        houses(f"house-chain-{direction}", "full", rack, roof, chain=count)
+        mixed = [by_pressures(it) if place % 2 else it for place, it in enumerate(roof)]
+        job(f"mixed-chain-{direction}", "full", rack, mixed, chain=count)
+        job(f"mixed-chain-{direction}-panes-reversed", "full", rack, mixed[::-1])
+        # no sheet is left at the end of the chain
+        job(f"mixed-chain-{direction}-to-nothing", "short", rack[:-1] + [rack[-1]._replace(stock=0)], mixed)
+
+
+def paper_houses():
+    """The rack of example (j) with roofs by wind class. N2 in zone 1 has the pressures of that example."""
+    rack = [glass(1, 1, 12, 2400, 3600, 21304, 23857), glass(1, 1, 10, 2400, 3600, 17976, 20130)]
+    example = [house(4, 30, 0, 3000, 900, 1500, 2, 1), house(4, 10, 0, 3000, 500, 1000, 2, 1)]
+    if [clauses.wind(it) for it in example] != [(60, 95)] * 2:
+        raise SystemExit("paper-houses: not the pressures of the example")
+    job("paper-houses", "full", rack, example, chain=2)
+    job("paper-houses-one-sheet", "short", rack[:1], example)
+    # over a span of 900, 12 mm bears P 702 and 10 mm P 500; at 30 degrees the minimum is 22 and 18
+    c2, n5, c4 = [house(4, 30, 0, 3000, 900, 1500, wind, zone) for wind, zone in ((8, 2), (5, 2), (10, 1))]
+    houses("paper-houses-c2-n5", "full", rack, [c2, n5], [class_above], chain=2)
+    houses("paper-houses-c4-n5", "short", rack, [c4, n5], [class_below, numbers_as_pressures])
+
+
+def house_zones():
+    """10 mm at 45 degrees has a maximum of 67 and a minimum of 15. N3 has P 162 in zone 1 and 255 in zone 2, and over a span of
+    600 needs constants of 7637 and 9582. The long pane fits on the first sheet alone."""
+    rack = [glass(w=1016, h=616, four=7637), glass(w=616, h=616, four=9582)]
+    away, near = dict(wind=3, zone=1), dict(wind=3, zone=2)
+    houses("long-pane-away-from-edges", "full", rack, [house(w=1000, h=600, **away), house(w=600, h=600, **near)], [other_zone])
+    houses("long-pane-near-edges", "short", rack, [house(w=600, h=1000, **near), house(w=600, h=600, **away)], [other_zone])
+
+
+def house_yields():
+    """A house pane of C4 in zone 2 has P 983 in 10 mm at 45 degrees, and needs a constant of 6271 over a span of 200."""
+    strong, weak, c4 = glass(four=6271), glass(four=6270), house(wind=10, zone=2)
+    houses("house-yield", "full", [strong, weak], [pane(), c4], chain=2)
+    houses("house-moves-over", "full", [strong, weak], [house(), pane(up=998)], chain=2)
+    houses("house-yields-to-house", "full", [strong, weak], [house(), c4], chain=2)
+    houses("houses-two-for-one-sheet", "short", [strong, weak._replace(stock=9)], [c4, pane(), c4], [other_zone, class_below])
+    # a pane with the numbers of that class has P 77, and needs a constant of 1755
+    tiny, numbers = glass(four=1755), pane(down=10, up=2)
+    job("class-numbers-as-pressures", "full", [tiny], [numbers])
+    job("class-numbers-as-pressures-one-below", "short", [tiny._replace(four=1754)], [numbers])
+    job("class-numbers-by-both-letters", "full", [strong, tiny], [numbers, c4], chain=2)
+    houses("class-numbers-by-both-letters-short", "short", [tiny._replace(stock=2)], [numbers, c4], [numbers_as_pressures])
+
+
+def house_shapes():
+    """House panes as ribbons, and on sheets of their cut size."""
+    thin = glass(kind=1, thick=10)
+    ribbons = [house(w=250, h=751, wind=4, zone=2), house(w=751, h=250, wind=9, zone=1)]
+    job("house-ribbons-at-the-entry", "full", [thin._replace(stock=2)], ribbons)
+    short_by_ribbons("house-ribbon-above-the-entry", [thin], [house(w=754, h=251, wind=4, zone=2)])
+    rack = [glass(thick=thick, w=w, h=h) for thick, w, h in COVERING]
+    panes = [house(w=600, h=900), pane(w=900, h=600), house(2, w=600, h=900, wind=6, zone=2), house(w=600, h=900, wind=10)]
+    job("house-covers", "full", rack, panes)
+    job("house-covers-lack", "short", rack[:3] + [rack[3]._replace(h=917)], panes)
+
+
+def most_houses():
+    """256 panes of both letters, on one glass."""
+    panes = [pane(w=200 + n, h=400) if n % 2 else house(w=200 + n, h=400, wind=n % 5 * 2 + 1, zone=2) for n in range(256)]
+    job("mixed-on-one-glass-of-256", "full", [glass(256)], panes)
+    job("mixed-on-one-glass-of-255", "short", [glass(255)], panes)
+
+
+def house_roofs():
+    """Roofs in which every other pane is a house pane, each with misreadings that it tells of."""
+    for name, due, seed, glass_count, pane_count, most, misreadings in (
+        ("roof-5", "full", 117, 24, 48, 4, [other_zone, class_above, class_below]),
+        ("roof-5-short", "short", 130, 24, 48, 4, [other_zone, class_below, numbers_as_pressures]),
+        ("roof-6", "full", 10, 64, 256, 9, [other_zone, class_above, class_below]),
+        ("roof-6-short", "short", 74, 64, 256, 9, [other_zone, numbers_as_pressures]),
+    ):
+        dice = random.Random(seed)
+        glasses, panes = random_roof(name, dice, glass_count, pane_count, most, range(300, 1600, 50), houses=True)
+        houses(name, due, glasses, panes, misreadings, **random_ids(dice, glass_count, pane_count))
+
+
 def write():
     shutil.rmtree(CRATE / "data", ignore_errors=True)
     (CRATE / "data").mkdir()
@@ -436,7 +640,8 @@ def write():
 
 for group in (
     paper_jobs, chains, first_fits, shortages, clauses_alone, empty_parts, largest, random_runs, random_roofs, ids, refused_files,
-    ribbon_yields, ribbon_chains, ribbon_columns, ribbon_constants, cover_shortages, cover_yields, cover_roofs,
+    ribbon_yields, ribbon_chains, ribbon_columns, ribbon_constants, cover_shortages, cover_yields, cover_roofs, every_class,
+    house_chains, paper_houses, house_zones, house_yields, house_shapes, most_houses, house_roofs,
 ):
     group()
 write()
