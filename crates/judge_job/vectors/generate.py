@@ -137,7 +137,7 @@ def spelled(verdict):
 def entries(part):
     """What each line holds, by its id."""
     words = [line.split() for line in part.decode().splitlines()]
-    return {int(id): MAKE[letter](*map(int, numbers)) for letter, id, *numbers in words}
+    return {int(id): MAKE[first](*map(int, numbers)) for first, id, *numbers in words}
 
 
 def second_answers(file, ids):
