@@ -1,5 +1,5 @@
 //! The verdict on a pane and a glass: document 01, "The four clauses", and document 02, 2026-01 for
-//! ribbons and 2026-02 for clause 2.
+//! ribbons, 2026-02 for clause 2 and 2026-03 for the wind of clause 4.
 
 use crate::job::{Glass, Pane};
 use crate::reader::read;
@@ -44,7 +44,8 @@ impl Loads {
             2 => pane.w,
             _ => pane.shorter_side(),
         };
-        let pressures = THICKNESSES.map(|thick| pressure(pane, thick));
+        let wind = pane.wind.pressures();
+        let pressures = THICKNESSES.map(|thick| pressure(pane.angle, wind, thick));
         Loads {
             laminated_only: pane.top >= 3_000,
             cut_sizes: THICKNESSES.map(|thick| cut_size(pane, thick)),
@@ -143,13 +144,13 @@ fn column(pane: &Pane) -> usize {
 }
 
 /// P: the larger of the downward and the upward combination of dead load and wind.
-fn pressure(pane: &Pane, thick: u8) -> u32 {
+fn pressure(angle: u8, (down, up): (u16, u16), thick: u8) -> u32 {
     let thick = u32::from(thick);
-    let at_or_below = usize::from(pane.angle / DEGREES_A_ROW);
-    let at_or_above = usize::from(pane.angle.div_ceil(DEGREES_A_ROW));
+    let at_or_below = usize::from(angle / DEGREES_A_ROW);
+    let at_or_above = usize::from(angle.div_ceil(DEGREES_A_ROW));
     let maximum = (MAXIMUM_DEAD_LOADS[at_or_below] * thick).div_ceil(6);
     let minimum = MINIMUM_DEAD_LOADS[at_or_above] * thick / 6;
-    let downward = maximum + u32::from(pane.down);
-    let upward = u32::from(pane.up).saturating_sub(minimum);
+    let downward = maximum + u32::from(down);
+    let upward = u32::from(up).saturating_sub(minimum);
     downward.max(upward)
 }

@@ -1,5 +1,6 @@
 //! Reading a job file: document 01, "The job file" and the order of "What each cause gives". The
-//! causes within a line are 8, 4, 5 and 6, whatever the sides of a pane: document 02, 2026-01.
+//! causes within a line are 8, 4, 5 and 6, whatever the sides of a pane: document 02, 2026-01. Pane
+//! lines begin with `P` or `Q`: document 02, 2026-03.
 
 use crate::job::{Glass, Job, Pane, LARGEST_ID, MOST_GLASSES, MOST_PANES};
 use crate::refusal::{Refusal, FORM, LENGTH, OFFSETS, REPEATED_ID, TOO_MANY_LINES, TRAILER, VALUE};
@@ -14,8 +15,12 @@ pub fn read(file: &[u8]) -> Result<Job, Refusal> {
     let mut glasses = [Glass::default(); MOST_GLASSES];
     let mut ids = Ids::new();
     let glass_part = &file[glass_offset..pane_offset];
-    let glass_count = read_part(glass_part, glass_offset, b'G', &mut glasses, |numbers| {
-        let glass = Glass::of(numbers).ok_or(VALUE)?;
+    let glass_count = read_part(glass_part, glass_offset, &mut glasses, |letter, numbers| {
+        let glass = match letter {
+            b'G' => Glass::of(numbers),
+            _ => return Err(FORM),
+        };
+        let glass = glass.ok_or(VALUE)?;
         ids.add(glass.id)?;
         Ok(glass)
     })?;
@@ -23,8 +28,13 @@ pub fn read(file: &[u8]) -> Result<Job, Refusal> {
     let mut panes = [Pane::default(); MOST_PANES];
     let mut ids = Ids::new();
     let pane_part = &file[pane_offset..end];
-    let pane_count = read_part(pane_part, pane_offset, b'P', &mut panes, |numbers| {
-        let pane = Pane::of(numbers).ok_or(VALUE)?;
+    let pane_count = read_part(pane_part, pane_offset, &mut panes, |letter, numbers| {
+        let pane = match letter {
+            b'P' => Pane::by_pressures(numbers),
+            b'Q' => Pane::by_class(numbers),
+            _ => return Err(FORM),
+        };
+        let pane = pane.ok_or(VALUE)?;
         ids.add(pane.id)?;
         Ok(pane)
     })?;
@@ -66,35 +76,36 @@ fn trailer(bytes: &[u8]) -> Option<(usize, usize)> {
 }
 
 /// Reads the lines of a part that begins at `offset` into `list`, and gives their number.
-/// `check` turns the numbers of a line into an entry, or into a cause that comes after `FORM`.
+/// `check` turns the letter and the numbers of a line into an entry, or into `FORM` or a cause that
+/// comes after it.
 fn read_part<const N: usize, T>(
     part: &[u8],
     offset: usize,
-    letter: u8,
     list: &mut [T],
-    mut check: impl FnMut([u32; N]) -> Result<T, usize>,
+    mut check: impl FnMut(u8, [u32; N]) -> Result<T, usize>,
 ) -> Result<usize, Refusal> {
     let mut rest = part;
     let mut count = 0;
     while !rest.is_empty() {
         let refuse = |number| Refusal::new(number, offset + part.len() - rest.len());
         let entry = list.get_mut(count).ok_or_else(|| refuse(TOO_MANY_LINES))?;
-        let (numbers, after) = line(rest, letter).ok_or_else(|| refuse(FORM))?;
-        *entry = check(numbers).map_err(refuse)?;
+        let (letter, numbers, after) = line(rest).ok_or_else(|| refuse(FORM))?;
+        *entry = check(letter, numbers).map_err(refuse)?;
         rest = after;
         count += 1;
     }
     Ok(count)
 }
 
-/// The numbers of the line at the front of `bytes`, and the bytes after its newline.
-fn line<const N: usize>(bytes: &[u8], letter: u8) -> Option<([u32; N], &[u8])> {
-    let mut rest = bytes.strip_prefix(&[letter])?;
+/// The letter, which may be any byte, and the numbers of the line at the front of `bytes`, and the bytes
+/// after its newline.
+fn line<const N: usize>(bytes: &[u8]) -> Option<(u8, [u32; N], &[u8])> {
+    let (&letter, mut rest) = bytes.split_first()?;
     let mut numbers = [0; N];
     for slot in &mut numbers {
         (*slot, rest) = number(rest.strip_prefix(b" ")?)?;
     }
-    Some((numbers, rest.strip_prefix(b"\n")?))
+    Some((letter, numbers, rest.strip_prefix(b"\n")?))
 }
 
 /// The number of one to five digits at the front of `bytes`, without a leading zero, and the bytes

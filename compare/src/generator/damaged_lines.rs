@@ -2,7 +2,8 @@
 //! numbers 4 to 6.
 
 use super::draft::Draft;
-use super::{honest, NEAR_BYTES};
+use super::fields::{edit, fields, set};
+use super::{damaged_winds, honest, NEAR_BYTES};
 use crate::random::Random;
 
 /// Numbers next to the allowed values of each field, or allowed ones plus a power of 256. Some
@@ -30,7 +31,7 @@ const OUTSIDE_PANE: [&[u32]; 9] = [
 ];
 
 /// Lines that are of no part's form.
-const STRAY_LINES: [&str; 5] = ["\n", " \n", "G\n", "P 1\n", "T 00000 00000\n"];
+const STRAY_LINES: [&str; 6] = ["\n", " \n", "G\n", "P 1\n", "Q\n", "T 00000 00000\n"];
 
 /// A line of a draft.
 #[derive(Clone, Copy)]
@@ -71,26 +72,36 @@ pub fn file(random: &mut Random) -> Vec<u8> {
 }
 
 fn damage_line(draft: &mut Draft, Spot { glass, at }: Spot, random: &mut Random) {
-    let (lines, outside): (_, &[&[u32]]) = if glass {
-        (&mut draft.glass_lines, &OUTSIDE_GLASS)
+    if !glass && random.one_in(3) {
+        damaged_winds::damage(&mut draft.pane_lines, at, random);
+        return;
+    }
+    let Draft {
+        glass_lines,
+        pane_lines,
+        ..
+    } = draft;
+    let (lines, other_part, outside): (_, _, &[&[u32]]) = if glass {
+        (glass_lines, pane_lines, &OUTSIDE_GLASS)
     } else {
-        (&mut draft.pane_lines, &OUTSIDE_PANE)
+        (pane_lines, glass_lines, &OUTSIDE_PANE)
     };
     let field = random.draw(1..=outside.len());
-    match random.below(16) {
+    match random.below(18) {
         0 => drop(lines.last_mut().and_then(Vec::pop)),
         1 => lines.insert(at, random.pick(&STRAY_LINES).into()),
-        2 => lines[at][0] = random.pick(b"GPgpTt "),
-        3..=5 => {
+        2 | 3 => lines[at][0] = random.pick(b"GPQgpqTt "),
+        4 => lines[at] = other_part[random.below(other_part.len())].clone(),
+        5..=7 => {
             let other = random.below(lines.len());
             let id = fields(&lines[other]).swap_remove(1);
             edit(&mut lines[at], |fields| fields[1] = id);
         }
-        6..=11 => {
+        8..=13 => {
             let number = random.pick(outside[field - 1]);
             edit(&mut lines[at], |fields| set(fields, field, number));
         }
-        12 | 13 => edit(&mut lines[at], |fields| {
+        14 | 15 => edit(&mut lines[at], |fields| {
             damage_fields(fields, field, random)
         }),
         _ => edit_bytes(&mut lines[at], random),
@@ -121,29 +132,5 @@ fn edit_bytes(line: &mut Vec<u8>, random: &mut Random) {
         4 => line.insert(line.len() - 1, random.pick(b"\r \t\0")),
         5 => line.insert(space, b' '),
         _ => line[space] = b'\t',
-    }
-}
-
-/// The letter and the numbers of a line.
-fn fields(line: &[u8]) -> Vec<Vec<u8>> {
-    let line = line.strip_suffix(b"\n").unwrap_or(line);
-    let mut fields: Vec<Vec<u8>> = line
-        .split(|&byte| byte == b' ')
-        .map(<[u8]>::to_vec)
-        .collect();
-    fields.resize(fields.len().max(2), Vec::new());
-    fields
-}
-
-fn edit(line: &mut Vec<u8>, change: impl FnOnce(&mut Vec<Vec<u8>>)) {
-    let mut fields = fields(line);
-    change(&mut fields);
-    *line = fields.join(&b' ');
-    line.push(b'\n');
-}
-
-fn set(fields: &mut [Vec<u8>], at: usize, number: u32) {
-    if let Some(field) = fields.get_mut(at) {
-        *field = number.to_string().into_bytes();
     }
 }

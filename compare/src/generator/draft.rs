@@ -2,7 +2,7 @@
 //! job file".
 
 use super::plan::Plan;
-use crate::job::{Glass, Pane};
+use crate::job::{Glass, Pane, Wind};
 use crate::random::Random;
 
 pub struct Draft {
@@ -61,6 +61,10 @@ fn glass_line(glass: &Glass) -> Vec<u8> {
 }
 
 fn pane_line(pane: &Pane) -> Vec<u8> {
+    let (letter, [first, second]) = match pane.wind {
+        Wind::Pressures { down, up } => ('P', [down, up]),
+        Wind::Class { class, zone } => ('Q', [class, zone]),
+    };
     let numbers = [
         pane.id.into(),
         pane.edges.into(),
@@ -69,10 +73,10 @@ fn pane_line(pane: &Pane) -> Vec<u8> {
         pane.top,
         pane.w.into(),
         pane.h.into(),
-        pane.down.into(),
-        pane.up.into(),
+        first.into(),
+        second.into(),
     ];
-    line('P', &numbers)
+    line(letter, &numbers)
 }
 
 /// No notes, words, any bytes, or lines that are not to be read.

@@ -1,7 +1,7 @@
 //! A glass and panes for which it passes, to be brought to a boundary.
 
 use super::plan::either_way_round;
-use crate::job::{Glass, Pane};
+use crate::job::{Glass, Pane, Wind};
 use crate::random::Random;
 
 /// A glass that passes for every pane with a span up to 2000 that is no awning and has 30 degrees
@@ -36,8 +36,19 @@ pub fn easy_pane(random: &mut Random) -> Pane {
         top: random.pick(&[0, 2_500, 2_999, 3_000, 7_000]),
         w,
         h,
-        down: random.draw(0..=200),
-        up: random.draw(0..=200),
+        wind: Wind::Pressures {
+            down: random.draw(0..=200),
+            up: random.draw(0..=200),
+        },
+    }
+}
+
+/// A pane for which the strong glass passes. One in three has two edges.
+pub fn any_easy_pane(random: &mut Random) -> Pane {
+    if random.one_in(3) {
+        easy_two_edge_pane(random)
+    } else {
+        easy_pane(random)
     }
 }
 

@@ -1,8 +1,9 @@
-//! Plausible roofs and racks, in ranges where every verdict occurs, on ribbons too.
+//! Plausible roofs and racks, in ranges where every verdict occurs, on ribbons and by wind class too.
 
 use super::plan::{either_way_round, sizes, Plan};
+use super::winds::Winds;
 use crate::clauses::{edge_cover, THICKNESSES};
-use crate::job::{Glass, Pane, MOST_GLASSES, MOST_PANES};
+use crate::job::{Glass, Pane, Wind, MOST_GLASSES, MOST_PANES};
 use crate::random::Random;
 
 /// Sheets that a rack may hold, in mm.
@@ -33,7 +34,9 @@ pub fn small_plan(random: &mut Random) -> Plan {
 pub fn plan_of(glasses: usize, panes: usize, random: &mut Random) -> Plan {
     let plenty = random.pick(&[1, 2, 8, 16]);
     let most_sheets = (plenty * panes / glasses.max(1) + 1).min(999) as u16;
-    let styles: Vec<Pane> = (0..random.draw(1..=5)).map(|_| style(random)).collect();
+    let winds = Winds::draw(random);
+    let styles = 0..random.draw(1..=5);
+    let styles: Vec<Pane> = styles.map(|_| style(winds, random)).collect();
     let mut plan = Plan {
         glasses: (0..glasses).map(|_| glass(most_sheets, random)).collect(),
         panes: (0..panes).map(|_| random.pick(&styles)).collect(),
@@ -65,12 +68,16 @@ fn glass(most_sheets: u16, random: &mut Random) -> Glass {
 }
 
 /// A pane as it is repeated on a roof.
-fn style(random: &mut Random) -> Pane {
+fn style(winds: Winds, random: &mut Random) -> Pane {
     let (edges, (w, h)) = match random.below(8) {
         0 | 1 => (2, (50 * random.draw(5..=14), 50 * random.draw(10..=60))),
         2 | 3 => (4, ribbon(random)),
         4 => (4, whole_sheet(random)),
         _ => (4, rectangle(random)),
+    };
+    let pressures = Wind::Pressures {
+        down: random.draw(30..=150),
+        up: random.draw(40..=300),
     };
     Pane {
         id: 0,
@@ -80,8 +87,7 @@ fn style(random: &mut Random) -> Pane {
         top: random.draw(24..=80u32) * 100,
         w,
         h,
-        down: random.draw(30..=150),
-        up: random.draw(40..=300),
+        wind: random.pick(&winds.choices(pressures)),
     }
 }
 
@@ -112,7 +118,17 @@ fn vary(pane: &mut Pane, random: &mut Random) {
         pane.h -= random.draw(0..=pane.h / 20);
     }
     if random.one_in(4) {
-        pane.up += random.draw(0..=200u16);
-        pane.down += random.draw(0..=100u16);
+        pane.wind = windier(pane.wind, random);
+    }
+}
+
+/// More pressure, or the zone along the edges.
+fn windier(wind: Wind, random: &mut Random) -> Wind {
+    match wind {
+        Wind::Pressures { down, up } => Wind::Pressures {
+            down: down + random.draw(0..=100u16),
+            up: up + random.draw(0..=200u16),
+        },
+        Wind::Class { class, .. } => Wind::Class { class, zone: 2 },
     }
 }

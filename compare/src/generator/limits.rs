@@ -8,7 +8,7 @@ use crate::random::Random;
 use crate::reader::{MOST_BYTES, TRAILER_BYTES};
 
 /// What a line too many may begin with, for it need not be a line.
-const MALFORMED: [&str; 5] = ["?", "\n", "G", "P ", "T 00000 00000\n"];
+const MALFORMED: [&str; 6] = ["?", "\n", "G", "P ", "Q", "T 00000 00000\n"];
 
 /// Any bytes, or bytes that lines are made of, with or without a trailer of some offsets.
 pub fn random_bytes(random: &mut Random) -> Vec<u8> {
@@ -91,11 +91,12 @@ fn replace(lines: &mut [Vec<u8>], at: usize, random: &mut Random) {
     if at >= lines.len() {
         return;
     }
-    match random.below(5) {
+    match random.below(6) {
         0 => lines[at] = random.pick(&MALFORMED).into(),
         1 => lines[at] = lines[0].clone(),
         2 => lines[at] = b"G 0 0 0 0 0 0 0 0\n".to_vec(),
         3 => lines[at] = b"P 0 0 0 0 0 0 0 0 0\n".to_vec(),
+        4 => lines[at] = b"Q 0 0 0 0 0 0 0 0 0\n".to_vec(),
         _ => {}
     }
 }

@@ -1,24 +1,29 @@
 //! Job files by seed, of seven kinds, for "The job file" and all that follows in document 01, and for
-//! document 02, 2026-01 and 2026-02.
+//! document 02, 2026-01 to 2026-03.
 
 mod boundaries;
 mod cut_sizes;
 mod damaged_anywhere;
 mod damaged_lines;
+mod damaged_winds;
 mod draft;
 mod easy;
+mod fields;
 mod honest;
+mod house_roofs;
 mod limits;
 mod plan;
+mod pressures;
 mod shapes;
 mod spans;
+mod winds;
 
 use crate::random::Random;
 use draft::Draft;
 use plan::Plan;
 
 /// Bytes that lines are made of, and some that look like them.
-const NEAR_BYTES: &[u8] = b"GPTgp 0123456789\n\r\t-+.,";
+const NEAR_BYTES: &[u8] = b"GPQTgpq 0123456789\n\r\t-+.,";
 
 #[derive(Clone, Copy, Debug, PartialEq, Eq)]
 pub enum Kind {
@@ -90,9 +95,9 @@ pub fn generate(random: &mut Random) -> (Kind, Vec<u8>) {
 }
 
 fn hard_plan(random: &mut Random) -> Plan {
-    if random.one_in(2) {
-        boundaries::plan(random)
-    } else {
-        shapes::plan(random)
+    match random.below(9) {
+        0..=3 => boundaries::plan(random),
+        4..=7 => shapes::plan(random),
+        _ => house_roofs::plan(random),
     }
 }

@@ -6,8 +6,10 @@ mod tests;
 
 use super::easy::strong_glass;
 use super::plan::{either_way_round, sizes, Plan};
+use super::pressures::least_constant;
+use super::winds::Winds;
 use crate::clauses::cut_size;
-use crate::job::{Glass, Pane};
+use crate::job::{Glass, Pane, Wind};
 use crate::random::Random;
 
 /// A pane's glasses, first and last.
@@ -19,6 +21,9 @@ const FIRST_WIDTHS: [u16; 4] = [400, 700, 820, 1_000];
 
 /// The thicknesses of the sheets, in mm. 6 mm would be too thin for the widest ribbons.
 const THICK: [u8; 3] = [8, 10, 12];
+
+/// The pressures on a pane without a class.
+const PRESSURES: Wind = Wind::Pressures { down: 60, up: 95 };
 
 pub fn plan(random: &mut Random) -> Plan {
     let (glasses, panes) = sizes(random);
@@ -47,14 +52,16 @@ struct Shape {
 impl Shape {
     fn plan(&self, random: &mut Random) -> Plan {
         let first_width = random.pick(&FIRST_WIDTHS);
+        let winds = Winds::draw(random).choices(PRESSURES);
         let mut plan = Plan::default();
         for (at, &stock) in self.stocks.iter().enumerate() {
             let thick = random.pick(&THICK);
-            plan.glasses.push(sheet(first_width, at, thick, stock));
+            let sheet = sheet(first_width, at, thick, &winds);
+            plan.glasses.push(Glass { stock, ..sheet });
         }
         for &interval in &self.intervals {
             let sides = either_way_round(sides(first_width, interval), random);
-            plan.panes.push(pane(sides));
+            plan.panes.push(pane(sides, random.pick(&winds)));
         }
         match random.below(4) {
             0 => random.shuffle(&mut plan.glasses),
@@ -74,20 +81,25 @@ fn sides(first_width: u16, (first, last): Interval) -> (u16, u16) {
     (width, height)
 }
 
-/// The sheet at this place, of the cut size of the pane that it alone covers.
-fn sheet(first_width: u16, at: usize, thick: u8, stock: u16) -> Glass {
-    let (w, h) = cut_size(&pane(sides(first_width, (at, at))), thick);
+/// The sheet at this place, of the cut size of the pane that it alone covers. It just bears that pane in
+/// each of these winds.
+fn sheet(first_width: u16, at: usize, thick: u8, winds: &[Wind]) -> Glass {
+    let sides = sides(first_width, (at, at));
+    let (w, h) = cut_size(&pane(sides, PRESSURES), thick);
+    let least = winds
+        .iter()
+        .map(|&wind| least_constant(&pane(sides, wind), thick));
     Glass {
         thick,
         w,
         h,
-        stock,
+        four: least.max().expect("a wind"),
         ..strong_glass()
     }
 }
 
 /// A pane of these sides, for which every sheet passes that covers it.
-fn pane((w, h): (u16, u16)) -> Pane {
+fn pane((w, h): (u16, u16), wind: Wind) -> Pane {
     Pane {
         id: 0,
         edges: 4,
@@ -96,8 +108,7 @@ fn pane((w, h): (u16, u16)) -> Pane {
         top: 4_000,
         w,
         h,
-        down: 60,
-        up: 95,
+        wind,
     }
 }
 

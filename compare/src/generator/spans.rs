@@ -4,7 +4,7 @@
 use super::easy::strong_glass;
 use super::plan::either_way_round;
 use crate::clauses::{thickness_index, THICKNESSES};
-use crate::job::{Glass, Pane};
+use crate::job::{Glass, Pane, Wind};
 use crate::random::Random;
 use crate::tables::{SPANS, TWO_EDGE};
 
@@ -93,8 +93,7 @@ impl Row {
             top: random.pick(&[0, 2_999, 3_000]),
             w,
             h,
-            down: 0,
-            up: 0,
+            wind: Wind::Pressures { down: 0, up: 0 },
         }
     }
 }

@@ -3,7 +3,7 @@
 
 use crate::jobs::{glass, CUT_JOB};
 use compare::clauses::{verdict, Loads, FAILS_POINT_LOAD, FAILS_SIZE, FAILS_UNIFORM_LOAD, PASSES};
-use compare::job::{Glass, Pane};
+use compare::job::{Glass, Pane, Wind};
 use compare::reader::read;
 use compare::roof::Roof;
 
@@ -185,7 +185,7 @@ fn clause_4_reads_the_sight_size() {
     for (thick, down, side) in [(6, 87, 112), (8, 68, 116), (10, 49, 116), (12, 30, 118)] {
         let pane = Pane {
             angle: 0,
-            down,
+            wind: Wind::Pressures { down, up: 0 },
             ..pane(4, 100, 100)
         };
         let four = |four| {
@@ -197,7 +197,7 @@ fn clause_4_reads_the_sight_size() {
     }
     let two_edge = Pane {
         angle: 0,
-        down: 30,
+        wind: Wind::Pressures { down: 30, up: 0 },
         ..pane(2, 100, 300)
     };
     let two = |two| {

@@ -3,7 +3,7 @@
 
 use crate::jobs::{accepted, glass, EXAMPLE_J};
 use compare::clauses::{verdict, Loads, FAILS_KIND, FAILS_POINT_LOAD, FAILS_UNIFORM_LOAD, PASSES};
-use compare::job::{Glass, Pane};
+use compare::job::{Glass, Pane, Wind};
 use compare::reader::read;
 use compare::refusal::Refusal;
 use compare::roof::Roof;
@@ -82,8 +82,7 @@ fn e_rows_of_32_degrees() {
     let pressure = |angle, down, up| {
         let pane = Pane {
             angle,
-            down,
-            up,
+            wind: Wind::Pressures { down, up },
             ..pane()
         };
         Loads::of(&pane).pressures[0]
@@ -105,7 +104,7 @@ fn f_rounding_at_10_degrees_and_8_mm() {
     let pressure = |up| {
         let pane = Pane {
             angle: 10,
-            up,
+            wind: Wind::Pressures { down: 0, up },
             ..pane()
         };
         Loads::of(&pane).pressures[1]
@@ -120,7 +119,7 @@ fn g_uniform_load() {
     let pane = Pane {
         w: 100,
         h: 100,
-        down: 30,
+        wind: Wind::Pressures { down: 30, up: 0 },
         ..pane()
     };
     assert_eq!(Loads::of(&pane).pressures[3], 144);

@@ -5,7 +5,7 @@ use crate::jobs::{glass, RIBBON_JOB};
 use compare::clauses::{
     verdict, Loads, FAILS_KIND, FAILS_POINT_LOAD, FAILS_SIZE, FAILS_UNIFORM_LOAD, PASSES,
 };
-use compare::job::{Glass, Pane};
+use compare::job::{Glass, Pane, Wind};
 use compare::reader::read;
 use compare::roof::Roof;
 
@@ -171,7 +171,7 @@ fn clause_4_has_the_constant_four() {
     for longer in [301, 400, 500, 5000] {
         let pane = Pane {
             angle: 0,
-            down: 30,
+            wind: Wind::Pressures { down: 30, up: 0 },
             ..pane(100, longer)
         };
         let judge = |two, four| {

@@ -1,36 +1,74 @@
-//! That the sides of a pane set the interval of glasses that pass for it.
+//! That the sides of a pane set the interval of glasses that pass for it, in every wind of its roof.
 
-use super::{pane, sheet, sides, FIRST_WIDTHS, THICK};
-use crate::clauses::{Loads, FAILS_SIZE, PASSES};
-use crate::job::MOST_GLASSES;
+use super::{pane, sheet, sides, FIRST_WIDTHS, PRESSURES, THICK};
+use crate::clauses::{Loads, FAILS_SIZE, FAILS_UNIFORM_LOAD, PASSES};
+use crate::generator::winds::Winds;
+use crate::job::{Glass, Pane, Wind, MOST_GLASSES};
 use std::ops::RangeInclusive;
+
+/// The winds of a roof by pressures, by each class, and by both.
+fn roofs() -> Vec<Vec<Wind>> {
+    let classes = (1..=10).flat_map(|class| [Winds::Class(class), Winds::Mixed(class)]);
+    let winds = classes.chain([Winds::Pressures]);
+    winds.map(|winds| winds.choices(PRESSURES)).collect()
+}
 
 /// Every sheet of its interval passes for a pane, and no other, either way round and in every
 /// thickness.
 #[test]
 fn a_pane_passes_with_its_interval_alone() {
-    for first_width in FIRST_WIDTHS {
-        for first in 0..MOST_GLASSES {
-            for last in first..MOST_GLASSES {
-                let (w, h) = sides(first_width, (first, last));
-                check((w, h), first_width, first..=last);
-                check((h, w), first_width, first..=last);
+    for winds in roofs() {
+        for first_width in FIRST_WIDTHS {
+            check_roof(first_width, &winds);
+        }
+    }
+}
+
+fn check_roof(first_width: u16, winds: &[Wind]) {
+    let places = 0..MOST_GLASSES;
+    let rack: Vec<[Glass; 3]> = places
+        .map(|at| THICK.map(|thick| sheet(first_width, at, thick, winds)))
+        .collect();
+    for first in 0..MOST_GLASSES {
+        for last in first..MOST_GLASSES {
+            let (w, h) = sides(first_width, (first, last));
+            for &wind in winds {
+                check(&pane((w, h), wind), &rack, first..=last);
+                check(&pane((h, w), wind), &rack, first..=last);
             }
         }
     }
 }
 
-fn check(sides: (u16, u16), first_width: u16, interval: RangeInclusive<usize>) {
-    let loads = Loads::of(&pane(sides));
-    for at in 0..MOST_GLASSES {
+fn check(pane: &Pane, rack: &[[Glass; 3]], interval: RangeInclusive<usize>) {
+    let loads = Loads::of(pane);
+    for (at, sheets) in rack.iter().enumerate() {
         let expected = if interval.contains(&at) {
             PASSES
         } else {
             FAILS_SIZE
         };
-        for thick in THICK {
-            let verdict = loads.judge(&sheet(first_width, at, thick, 1));
-            assert_eq!(verdict, expected, "{sides:?} and sheet {at} of {thick} mm");
+        for sheet in sheets {
+            assert_eq!(loads.judge(sheet), expected, "{pane:?} and {sheet:?}");
+        }
+    }
+}
+
+/// With a constant 1 less, a sheet would be too weak for the widest pane that it covers in one of the
+/// winds.
+#[test]
+fn a_sheet_just_bears_its_widest_pane() {
+    for winds in roofs() {
+        for first_width in FIRST_WIDTHS {
+            for at in 0..MOST_GLASSES {
+                let panes = winds.iter();
+                let mut panes = panes.map(|&wind| pane(sides(first_width, (at, at)), wind));
+                let sheet = sheet(first_width, at, 12, &winds);
+                let four = sheet.four - 1;
+                let weaker = Glass { four, ..sheet };
+                let fails = |pane| Loads::of(&pane).judge(&weaker) == FAILS_UNIFORM_LOAD;
+                assert!(panes.any(fails), "{sheet:?}");
+            }
         }
     }
 }
