@@ -71,17 +71,23 @@ fn windless(random: &mut Random) -> (Pane, u8) {
     };
     let easy = match thick {
         12 => any_easy_pane(random),
-        _ => small_pane(random),
+        _ => small_pane(angle, random),
     };
     (Pane { angle, ..easy }, thick)
 }
 
-/// A four-edge pane that is no ribbon, of a span for which 6 mm is enough at every angle.
-fn small_pane(random: &mut Random) -> Pane {
-    let shorter = random.draw(100..=700);
-    let longer = random.draw(shorter..=3 * shorter);
-    let (w, h) = either_way_round((shorter, longer), random);
+/// A pane that is no ribbon, of a span for which 6 mm is enough: with four edges at every angle, with two
+/// from 30 degrees.
+fn small_pane(angle: u8, random: &mut Random) -> Pane {
+    let two_edges = angle >= 30 && random.one_in(2);
+    let span = random.draw(100..=650);
+    let sides = (span, random.draw(span..=3 * span));
+    let (edges, (w, h)) = match two_edges {
+        true => (2, sides),
+        false => (4, either_way_round(sides, random)),
+    };
     Pane {
+        edges,
         w,
         h,
         ..easy_pane(random)

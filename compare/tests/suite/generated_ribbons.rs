@@ -1,7 +1,9 @@
 //! That the generator draws ribbons (document 02, 2026-01) of every verdict, of the utmost sides and
 //! at the boundaries, and that each is judged as its two-edge column and the constant "four" say.
 
-use crate::pairs::{each_comes_up, for_each_pair, jobs, judge, FEW};
+use crate::pairs::{
+    each_comes_up, for_each_pair, jobs, judge, just_bears, just_fails, two_for_four, FEW,
+};
 use compare::clauses::{thickness_index, Loads, FAILS_POINT_LOAD, FAILS_UNIFORM_LOAD, PASSES};
 use compare::generator::Kind;
 use compare::job::{Glass, Pane};
@@ -64,15 +66,13 @@ fn the_boundaries() {
         }),
         ("four is just enough, two is not", |pane, glass| {
             pane.is_ribbon()
-                && judge(pane, glass) == PASSES
-                && judge(pane, &with_four(glass, glass.four - 1)) == FAILS_UNIFORM_LOAD
-                && judge(pane, &with_four(glass, glass.two)) == FAILS_UNIFORM_LOAD
+                && just_bears(pane, glass)
+                && judge(pane, &two_for_four(glass)) == FAILS_UNIFORM_LOAD
         }),
         ("four is one too small, two is not", |pane, glass| {
             pane.is_ribbon()
-                && judge(pane, glass) == FAILS_UNIFORM_LOAD
-                && judge(pane, &with_four(glass, glass.four + 1)) == PASSES
-                && judge(pane, &with_four(glass, glass.two)) == PASSES
+                && just_fails(pane, glass)
+                && judge(pane, &two_for_four(glass)) == PASSES
         }),
     ]);
 }
@@ -107,8 +107,4 @@ fn is_ribbon_of(pane: &Pane, w: u16, h: u16) -> bool {
 fn entry(pane: &Pane, glass: &Glass) -> u16 {
     let kind = usize::from(glass.kind) - 1;
     SPANS[kind][Loads::of(pane).live_load][thickness_index(glass.thick)][TWO_EDGE]
-}
-
-fn with_four(glass: &Glass, four: u32) -> Glass {
-    Glass { four, ..*glass }
 }

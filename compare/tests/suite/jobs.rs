@@ -39,6 +39,16 @@ P 2 4 30 0 3000 1500 900 60 95
 T 00000 00064
 ";
 
+/// A pane by pressures and one by wind class, N5 in zone 2: every pane can be served, but not by first
+/// fit. Pane 1 passes with both glasses. Pane 2 passes with glass 9 only, for P is 573 with 10 mm, which
+/// glass 7 bears up to 500. In zone 1 it would be 307.
+pub const HOUSE_JOB: &[u8] = b"G 9 1 12 2400 3600 21304 23857 1
+G 7 1 10 2400 3600 17976 20130 1
+P 1 4 30 0 3000 900 1500 60 95
+Q 2 4 30 0 3000 900 1500 5 2
+T 00000 00066
+";
+
 /// A file of these parts, without notes.
 fn file(glass_part: &str, pane_part: &str) -> Vec<u8> {
     format!("{glass_part}{pane_part}T 00000 {:05}\n", glass_part.len()).into_bytes()

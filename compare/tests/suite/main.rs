@@ -1,20 +1,24 @@
-//! The second implementation on the examples of document 01, on ribbons and on cut sizes, the checks on
-//! wrong answers, the generator, and the numbers that the interface names.
+//! The second implementation on the examples of document 01, on ribbons, cut sizes and house roofs, the
+//! checks on wrong answers, the generator, and the numbers that the interface names.
 
 mod cut_sizes;
 mod examples;
 mod generated;
 mod generated_cut_sizes;
+mod generated_house_roofs;
 mod generated_ribbons;
+mod house_roofs;
 mod interface;
 mod jobs;
 mod misread_cut_sizes;
 mod misread_spans;
 mod misreadings;
 mod pairs;
+mod pane_lines;
 mod reference;
 mod refusals;
 mod ribbons;
+mod table_a2;
 mod wrong_calls;
 mod wrong_placings;
 mod wrong_texts;

@@ -1,7 +1,7 @@
 //! Likely misreadings of document 02, 2026-01. Each case is a generated pair of a pane and a glass on
 //! which the misreading gives another verdict, so that a library with it is found.
 
-use crate::pairs::{each_comes_up, judge};
+use crate::pairs::{each_comes_up, judge, two_for_four};
 use compare::clauses::{FAILS_KIND, FAILS_SIZE, FAILS_UNIFORM_LOAD, PASSES};
 use compare::job::{Glass, Pane};
 
@@ -108,11 +108,4 @@ fn differs_with_longer_side(pane: &Pane, glass: &Glass, longer: u16) -> bool {
         ..*glass
     };
     !matches!(verdict, FAILS_KIND | FAILS_SIZE) && verdict != judge(&read_as, &roomy)
-}
-
-fn two_for_four(glass: &Glass) -> Glass {
-    Glass {
-        four: glass.two,
-        ..*glass
-    }
 }

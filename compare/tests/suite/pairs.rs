@@ -1,6 +1,6 @@
-//! The pairs of a pane and a glass in generated files, and which cases come up among them.
+//! The generated files, the pairs of a pane and a glass in them, and which cases come up among them.
 
-use compare::clauses::Loads;
+use compare::clauses::{Loads, FAILS_UNIFORM_LOAD, PASSES};
 use compare::generator::{generate, Kind};
 use compare::job::{Glass, Job, Pane};
 use compare::random::Random;
@@ -12,10 +12,14 @@ pub const FEW: usize = 10;
 /// A case, and whether a pair is one.
 pub type Case = (&'static str, fn(&Pane, &Glass) -> bool);
 
-/// The accepted files among the first 3,000 of seed 1.
+/// The first 3,000 files of seed 1.
+pub fn files() -> impl Iterator<Item = (Kind, Vec<u8>)> {
+    (0..3_000).map(|index| generate(&mut Random::of_file(1, index)))
+}
+
+/// The accepted files among them.
 pub fn jobs() -> impl Iterator<Item = (Kind, Job)> {
-    let files = (0..3_000).map(|index| generate(&mut Random::of_file(1, index)));
-    files.filter_map(|(kind, file)| Some((kind, read(&file).ok()?)))
+    files().filter_map(|(kind, file)| Some((kind, read(&file).ok()?)))
 }
 
 /// Hands on every pair of the files.
@@ -33,9 +37,14 @@ pub fn for_each_pair(mut take: impl FnMut(&Pane, &Glass)) {
 pub fn each_comes_up(cases: &[Case]) {
     let counts = files_with(cases.len(), |at, pane, glass| (cases[at].1)(pane, glass));
     for ((name, _), count) in cases.iter().zip(counts) {
-        println!("{name}: {count} files");
-        assert!(count >= FEW, "{name}: {count} files");
+        not_few(name, count);
     }
+}
+
+/// Fails where the files of a case are few.
+pub fn not_few(name: &str, count: usize) {
+    println!("{name}: {count} files");
+    assert!(count >= FEW, "{name}: {count} files");
 }
 
 /// For each of so many cases, in how many files a pair is one.
@@ -52,4 +61,35 @@ pub fn files_with(cases: usize, holds: impl Fn(usize, &Pane, &Glass) -> bool) ->
 
 pub fn judge(pane: &Pane, glass: &Glass) -> usize {
     Loads::of(pane).judge(glass)
+}
+
+/// Whether the constant of the glass is just enough for the pane.
+pub fn just_bears(pane: &Pane, glass: &Glass) -> bool {
+    let weaker = with_constant(pane, glass, |k| k - 1);
+    judge(pane, glass) == PASSES && judge(pane, &weaker) == FAILS_UNIFORM_LOAD
+}
+
+/// Whether the constant of the glass is one too small for the pane.
+pub fn just_fails(pane: &Pane, glass: &Glass) -> bool {
+    let stronger = with_constant(pane, glass, |k| k + 1);
+    judge(pane, glass) == FAILS_UNIFORM_LOAD && judge(pane, &stronger) == PASSES
+}
+
+/// The glass with its constant for this pane changed.
+fn with_constant(pane: &Pane, glass: &Glass, change: impl Fn(u32) -> u32) -> Glass {
+    let mut glass = *glass;
+    let k = match pane.edges {
+        2 => &mut glass.two,
+        _ => &mut glass.four,
+    };
+    *k = change(*k);
+    glass
+}
+
+/// The glass with the constant "two" for both.
+pub fn two_for_four(glass: &Glass) -> Glass {
+    Glass {
+        four: glass.two,
+        ..*glass
+    }
 }
