@@ -3,7 +3,7 @@
 
 use crate::jobs::{glass, EXAMPLE_J, HOUSE_JOB};
 use crate::table_a2::{
-    classes_and_zones, pressure, printed, right_pressures, ANY_POSITION, GENERAL, NEAR_EDGES, SPEED,
+    classes_and_zones, pressure, right_pressures, ANY_POSITION, GENERAL, NEAR_EDGES, SPEEDS,
 };
 use compare::clauses::{
     thickness_index, verdict, Loads, FAILS_KIND, FAILS_POINT_LOAD, FAILS_SIZE, FAILS_UNIFORM_LOAD,
@@ -60,22 +60,20 @@ fn one_decimal_is_tenths() {
     assert_eq!(class(6, 2).pressures(), (280, 799));
 }
 
-/// The coefficients printed above the three columns, in hundredths, for N1 to N6 and for C1 to C4. A
-/// figure is 0.6 times the square of the printed speed, in Pa, times its coefficient. An error in copying
-/// would show.
+/// A figure is 0.6 times the square of the speed, in Pa, times the coefficient printed above its column,
+/// here in hundredths. An error in copying would show.
 #[test]
 fn figures_fit_speeds_and_coefficients() {
-    for class in 1..=10 {
-        let speed: u32 = printed(class, SPEED).parse().expect("a speed");
-        let coefficients = match class {
-            ..=6 => [63, 99, 180],
+    for (at, (figures, speed)) in ROOF_PRESSURES.into_iter().zip(SPEEDS).enumerate() {
+        let coefficients = match at {
+            ..6 => [63, 99, 180],
             _ => [95, 144, 225],
         };
-        let figures = coefficients.map(|hundredths| {
+        let worked_out = coefficients.map(|hundredths| {
             let ten_thousandths = 6 * speed * speed * hundredths;
-            ((ten_thousandths + 5_000) / 10_000) as u16
+            (ten_thousandths + 5_000) / 10_000
         });
-        assert_eq!(ROOF_PRESSURES[usize::from(class) - 1], figures, "{class}");
+        assert_eq!(figures.map(u32::from), worked_out, "class {}", at + 1);
     }
 }
 

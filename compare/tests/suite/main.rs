@@ -12,6 +12,7 @@ mod interface;
 mod jobs;
 mod misread_cut_sizes;
 mod misread_spans;
+mod misread_wind_classes;
 mod misreadings;
 mod pairs;
 mod pane_lines;
