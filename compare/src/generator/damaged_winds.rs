@@ -10,11 +10,11 @@ const OUTSIDE_ZONES: [u32; 6] = [0, 0, 3, 3, 258, 65_537];
 pub fn damage(lines: &mut Vec<Vec<u8>>, at: usize, random: &mut Random) {
     let line = &mut lines[at];
     let (class, zone) = (random.draw(1..=10), random.draw(1..=2));
-    match random.below(8) {
+    match random.below(9) {
         0..=2 => by_wind(line, b'Q', [random.pick(&OUTSIDE_CLASSES), zone]),
         3 | 4 => by_wind(line, b'Q', [class, random.pick(&OUTSIDE_ZONES)]),
-        5 => by_wind(line, b'q', [class, zone]),
-        6 => line[0] = other_letter(line[0]),
+        5 => by_wind(line, random.pick(b"qqG"), [class, zone]),
+        6 | 7 => line[0] = other_letter(line[0]),
         _ => repeat_by_other_letter(lines, at, [class, zone], random),
     }
 }

@@ -12,14 +12,14 @@ pub const FEW: usize = 10;
 /// A case, and whether a pair is one.
 pub type Case = (&'static str, fn(&Pane, &Glass) -> bool);
 
-/// The first 3,000 files of seed 1.
-pub fn files() -> impl Iterator<Item = (Kind, Vec<u8>)> {
-    (0..3_000).map(|index| generate(&mut Random::of_file(1, index)))
+/// The first files of seed 1.
+pub fn files(count: u64) -> impl Iterator<Item = (Kind, Vec<u8>)> {
+    (0..count).map(|index| generate(&mut Random::of_file(1, index)))
 }
 
-/// The accepted files among them.
+/// The accepted files among the first 3,000 of seed 1.
 pub fn jobs() -> impl Iterator<Item = (Kind, Job)> {
-    files().filter_map(|(kind, file)| Some((kind, read(&file).ok()?)))
+    files(3_000).filter_map(|(kind, file)| Some((kind, read(&file).ok()?)))
 }
 
 /// Hands on every pair of the files.

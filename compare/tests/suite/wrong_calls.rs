@@ -1,6 +1,6 @@
 //! A library with wrong answers, each of which the comparison of a file has to find.
 
-use crate::jobs::{CUT_JOB, EXAMPLE_J, RIBBON_JOB, SHORT_JOB};
+use crate::jobs::{CUT_JOB, EXAMPLE_J, HOUSE_JOB, RIBBON_JOB, SHORT_JOB};
 use crate::reference::Reference;
 use compare::bordavina::{CheckResult, PlaceResult, VerdictResult, TEXT_SIZE};
 use compare::calls::Library;
@@ -8,7 +8,7 @@ use compare::clauses::PASSES;
 use compare::comparison::{compare, TEXT_LEFT, TEXT_WITHIN};
 use compare::place_call::{ACCEPTED, ANSWERS_LEFT, GROUP_LEFT, REFUSED};
 use compare::random::Random;
-use compare::refusal::{Refusal, NO_GLASS, NO_PANE, SHORT_LIST};
+use compare::refusal::{NO_GLASS, NO_PANE, SHORT_LIST};
 use compare::rules::{GROUP, PASSING, PLACED, STOCK, WANTED};
 use compare::text::FORM;
 
@@ -54,7 +54,7 @@ impl Library for Altered {
 }
 
 /// Whether a comparison of the file finds what was expected to be this, in a call of this name.
-fn found(library: &Altered, file: &[u8], call: &str, expected: &str) -> bool {
+pub fn found<L: Library>(library: &L, file: &[u8], call: &str, expected: &str) -> bool {
     let outcome = compare(library, file, &mut Random::of_file(1, 1));
     assert!(outcome.finding_count >= outcome.findings.len());
     let mut findings = outcome.findings.iter();
@@ -68,6 +68,7 @@ fn unaltered_answers() {
         SHORT_JOB,
         RIBBON_JOB,
         CUT_JOB,
+        HOUSE_JOB,
         b"",
         b"T 00000 00000\n",
         b"GT 00000 00001\n",
@@ -131,41 +132,12 @@ fn altered_verdicts() {
     ));
 }
 
-/// Number 7 for the line of the first ribbon, which document 02, 2026-01, lets no call give.
-const RIBBON_REFUSED: Refusal = Refusal::new(7, 66);
-
-#[test]
-fn ribbons_refused_with_number_7() {
-    let check = Altered {
-        check: Some(|answer| *answer = RIBBON_REFUSED.into()),
-        ..Altered::default()
-    };
-    assert!(found(&check, RIBBON_JOB, "check", "number: 0"));
-    let verdict = Altered {
-        verdict: Some(|answer| *answer = RIBBON_REFUSED.into()),
-        ..Altered::default()
-    };
-    assert!(found(&verdict, RIBBON_JOB, "verdict", "number: 0"));
-    let place = Altered {
-        place: Some(|answer, _, _| *answer = RIBBON_REFUSED.into()),
-        ..Altered::default()
-    };
-    assert!(found(&place, RIBBON_JOB, "place", ACCEPTED));
-    let report = Altered {
-        report: Some(|length, text| *length = write(text, b"refused 7 66\n")),
-        ..Altered::default()
-    };
-    assert!(found(&report, RIBBON_JOB, "report", FORM));
-}
-
-/// By sight size, both panes could be served.
-#[test]
-fn sheets_smaller_than_the_cut_size() {
+/// Whether each call is found out that gives pane 2 the glass 7, which fails by this clause.
+fn found_passing(file: &[u8], clause: &str) -> bool {
     let verdict = Altered {
         verdict: Some(|answer| answer.clause = PASSES),
         ..Altered::default()
     };
-    assert!(found(&verdict, CUT_JOB, "verdict", "clause: 2"));
     let place = Altered {
         place: Some(|answer, answers, _| {
             if answer.number == 0 {
@@ -175,16 +147,29 @@ fn sheets_smaller_than_the_cut_size() {
         }),
         ..Altered::default()
     };
-    assert!(found(&place, CUT_JOB, "place", PASSING));
     let report = Altered {
         report: Some(|length, text| *length = write(text, b"1 9\n2 7\n2 2\n")),
         ..Altered::default()
     };
-    assert!(found(&report, CUT_JOB, "report", PASSING));
+    found(&verdict, file, "verdict", clause)
+        && found(&place, file, "place", PASSING)
+        && found(&report, file, "report", PASSING)
+}
+
+/// By sight size, both panes could be served.
+#[test]
+fn sheets_smaller_than_the_cut_size() {
+    assert!(found_passing(CUT_JOB, "clause: 2"));
+}
+
+/// In zone 1, glass 7 would pass.
+#[test]
+fn a_glass_too_weak_for_the_zone() {
+    assert!(found_passing(HOUSE_JOB, "clause: 4"));
 }
 
 /// Writes these lines to the front of a text, and gives their length.
-fn write(text: &mut [u8], lines: &[u8]) -> usize {
+pub fn write(text: &mut [u8], lines: &[u8]) -> usize {
     text[..lines.len()].copy_from_slice(lines);
     lines.len()
 }

@@ -1,6 +1,6 @@
 //! Wrong placings, each of which has to be found by the rules that it breaks.
 
-use crate::jobs::{CUT_JOB, EXAMPLE_J, RIBBON_JOB, SHORT_JOB};
+use crate::jobs::{CUT_JOB, EXAMPLE_J, HOUSE_JOB, RIBBON_JOB, SHORT_JOB};
 use compare::reader::read;
 use compare::roof::Roof;
 use compare::rules::{
@@ -34,6 +34,7 @@ fn right_placings() {
     assert_eq!(broken(RIBBON_JOB, &[7, 9], (2, 2), &[]), [""; 0]);
     assert_eq!(broken(CUT_JOB, &[9, 0], (1, 2), &[1, 2]), [""; 0]);
     assert_eq!(broken(CUT_JOB, &[0, 9], (1, 2), &[2, 1]), [""; 0]);
+    assert_eq!(broken(HOUSE_JOB, &[7, 9], (2, 2), &[]), [""; 0]);
 }
 
 #[test]
@@ -41,6 +42,8 @@ fn first_fit() {
     let rules = broken(EXAMPLE_J, &[9, 0], (1, 2), &[2]);
     assert_eq!(rules, [ALL_SERVED, SHORT]);
     let rules = broken(RIBBON_JOB, &[9, 0], (1, 2), &[1]);
+    assert_eq!(rules, [ALL_SERVED, SHORT]);
+    let rules = broken(HOUSE_JOB, &[9, 0], (1, 2), &[2]);
     assert_eq!(rules, [ALL_SERVED, SHORT]);
 }
 
@@ -69,6 +72,7 @@ fn glass_that_does_not_pass() {
     assert_eq!(broken(EXAMPLE_J, &[9, 7], (2, 2), &[]), [PASSING]);
     assert_eq!(broken(EXAMPLE_J, &[8, 9], (2, 2), &[]), [PASSING]);
     assert_eq!(broken(RIBBON_JOB, &[9, 7], (2, 2), &[]), [PASSING]);
+    assert_eq!(broken(HOUSE_JOB, &[9, 7], (2, 2), &[]), [PASSING]);
 }
 
 /// By sight size, glass 7 would pass.
