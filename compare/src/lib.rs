@@ -1,7 +1,6 @@
-//! A second implementation of document 01 (the owner's scope document) and requests 2026-01 and
-//! 2026-02 of document 02 (the owner's change requests), written from those alone, and the checks by
-//! which the proved library, which is linked here, is compared with it. Where they differ, document 02
-//! holds.
+//! A second implementation of document 01 (the owner's scope document) and requests 2026-01 to 2026-03
+//! of document 02 (the owner's change requests), written from those alone, and the checks by which the
+//! proved library, which is linked here, is compared with it. Where they differ, document 02 holds.
 #![deny(unsafe_code)]
 
 /// The proved library through its C interface. No other module has unsafe code.

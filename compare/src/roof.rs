@@ -1,5 +1,5 @@
 //! An accepted job with all its verdicts by document 01, "The four clauses", and document 02,
-//! 2026-01 and 2026-02, and the greatest number of panes that can be served.
+//! 2026-01 to 2026-03, and the greatest number of panes that can be served.
 
 use crate::clauses::{Loads, PASSES};
 use crate::flow::most_served;

@@ -3,7 +3,8 @@
 use super::fields::{edit, set};
 use crate::random::Random;
 
-/// Numbers next to the allowed values, allowed ones plus a power of 256, and the largest number.
+/// Numbers next to the allowed values, allowed ones plus a power of 256, and for a class the largest
+/// number.
 const OUTSIDE_CLASSES: [u32; 8] = [0, 0, 11, 11, 12, 257, 65_537, 99_999];
 const OUTSIDE_ZONES: [u32; 6] = [0, 0, 3, 3, 258, 65_537];
 

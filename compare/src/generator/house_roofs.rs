@@ -16,12 +16,7 @@ pub fn plan(random: &mut Random) -> Plan {
         for zone in [1, 2] {
             let wind = Wind::Class { class, zone };
             let pane = Pane { wind, ..like };
-            let least = least_constant(&pane, thick);
-            for k in [least, least - 1] {
-                let stock = random.pick(&[0, 1, 1, 2]);
-                let glass = glass_of_constant(&pane, thick, k);
-                plan.glasses.push(Glass { stock, ..glass });
-            }
+            plan.glasses.extend(just_about(&pane, thick, random));
             plan.panes.push(pane);
             if random.one_in(4) {
                 let wind = by_pressures(class, zone, random);
@@ -33,6 +28,15 @@ pub fn plan(random: &mut Random) -> Plan {
     random.shuffle(&mut plan.panes);
     plan.number(random);
     plan
+}
+
+/// The glass that just bears a pane, and one that just does not.
+fn just_about(pane: &Pane, thick: u8, random: &mut Random) -> [Glass; 2] {
+    let least = least_constant(pane, thick);
+    [least, least - 1].map(|k| Glass {
+        stock: random.pick(&[0, 1, 1, 2]),
+        ..glass_of_constant(pane, thick, k)
+    })
 }
 
 /// A pane by class, or at times by the numbers of a class or its pressures, and a glass near its least

@@ -3,7 +3,7 @@
 use crate::job::Wind;
 use crate::random::Random;
 
-/// On a house, every class is that of the house.
+/// Pressures on every pane, the class of the house on every pane, or some of each.
 #[derive(Clone, Copy)]
 pub enum Winds {
     Pressures,
@@ -23,7 +23,7 @@ impl Winds {
         ])
     }
 
-    /// The winds that a pane may have, with these pressures where it has no class.
+    /// The winds that a pane may have: these pressures, the class in either zone, or all of these.
     pub fn choices(self, pressures: Wind) -> Vec<Wind> {
         let zones = |class| [1, 2].map(|zone| Wind::Class { class, zone });
         match self {

@@ -1,9 +1,11 @@
 //! That the generator draws house roofs by wind class (document 02, 2026-03): plausible ones, ones that
 //! are hard to place, and in every class and zone constants that just bear a pane or just do not.
 
-use crate::pairs::{files_with, for_each_pair, jobs, judge, just_bears, just_fails, not_few, FEW};
-use crate::table_a2::{classes_and_zones, right_pressures};
-use compare::clauses::{thickness_index, Loads};
+use crate::pairs::{
+    down_governs, files_with, for_each_pair, jobs, judge, just_bears, just_fails, not_few,
+    up_governs, FEW,
+};
+use crate::table_a2::{classes_and_zones, right_pressures, DOWN_CAN_GOVERN};
 use compare::generator::Kind;
 use compare::job::{Glass, Job, Pane, Wind};
 use compare::roof::Roof;
@@ -77,60 +79,31 @@ fn every_verdict() {
     assert!(counts.iter().all(|&count| count >= FEW));
 }
 
-/// The direction governs where P is more than without its pressure.
-#[derive(Clone, Copy, Debug, PartialEq)]
-enum Direction {
-    Down,
-    Up,
-}
-
-impl Direction {
-    fn governs(self, pane: &Pane, glass: &Glass) -> bool {
-        let (down, up) = pane.wind.pressures();
-        let wind = match self {
-            Direction::Down => Wind::Pressures { down: 0, up },
-            Direction::Up => Wind::Pressures { down, up: 0 },
-        };
-        p(pane, glass) > p(&Pane { wind, ..*pane }, glass)
-    }
-}
-
-fn p(pane: &Pane, glass: &Glass) -> u32 {
-    Loads::of(pane).pressures[thickness_index(glass.thick)]
-}
-
-/// The classes and zones in which the pressure down can govern: `house_roofs.rs` works them out.
-const DOWN_CAN_GOVERN: [(u16, u16); 9] = [
-    (1, 1),
-    (1, 2),
-    (2, 1),
-    (2, 2),
-    (3, 1),
-    (4, 1),
-    (5, 1),
-    (7, 1),
-    (8, 1),
-];
-
 /// Whether the constant is just enough, or one too small.
 const AT_THE_BOUNDARY: [fn(&Pane, &Glass) -> bool; 2] = [just_bears, just_fails];
 
 #[test]
-fn the_boundaries_of_every_class_and_zone() {
-    for direction in [Direction::Down, Direction::Up] {
-        let rows: Vec<(u16, u16)> = classes_and_zones()
-            .filter(|row| direction == Direction::Up || DOWN_CAN_GOVERN.contains(row))
-            .collect();
-        for at_the_boundary in AT_THE_BOUNDARY {
-            let counts = files_with(rows.len(), |at, pane, glass| {
-                let (class, zone) = rows[at];
-                pane.wind == Wind::Class { class, zone }
-                    && direction.governs(pane, glass)
-                    && at_the_boundary(pane, glass)
-            });
-            println!("{direction:?} governs, files by class and zone: {counts:?}");
-            assert!(counts.iter().all(|&count| count >= FEW));
-        }
+fn the_boundaries_where_down_governs() {
+    check_boundaries(&DOWN_CAN_GOVERN, down_governs);
+}
+
+#[test]
+fn the_boundaries_where_up_governs() {
+    let rows: Vec<(u16, u16)> = classes_and_zones().collect();
+    check_boundaries(&rows, up_governs);
+}
+
+/// Both sides of the boundary come up in each of these classes and zones where this pressure governs.
+fn check_boundaries(rows: &[(u16, u16)], governs: fn(&Pane, u8) -> bool) {
+    for at_the_boundary in AT_THE_BOUNDARY {
+        let counts = files_with(rows.len(), |at, pane, glass| {
+            let (class, zone) = rows[at];
+            pane.wind == Wind::Class { class, zone }
+                && governs(pane, glass.thick)
+                && at_the_boundary(pane, glass)
+        });
+        println!("files by class and zone: {counts:?}");
+        assert!(counts.iter().all(|&count| count >= FEW));
     }
 }
 

@@ -2,12 +2,14 @@
 //! Tables 6.1 and A2 of AS 1288 by hand.
 
 use crate::jobs::{glass, EXAMPLE_J, HOUSE_JOB};
+use crate::pairs::{down_governs, p};
 use crate::table_a2::{
-    classes_and_zones, pressure, right_pressures, ANY_POSITION, GENERAL, NEAR_EDGES, SPEEDS,
+    classes_and_zones, pressure, right_pressures, ANY_POSITION, DOWN_CAN_GOVERN, GENERAL,
+    NEAR_EDGES, SPEEDS,
 };
 use compare::clauses::{
-    thickness_index, verdict, Loads, FAILS_KIND, FAILS_POINT_LOAD, FAILS_SIZE, FAILS_UNIFORM_LOAD,
-    PASSES, THICKNESSES,
+    verdict, Loads, FAILS_KIND, FAILS_POINT_LOAD, FAILS_SIZE, FAILS_UNIFORM_LOAD, PASSES,
+    THICKNESSES,
 };
 use compare::job::{Glass, Pane, Wind};
 use compare::reader::read;
@@ -31,19 +33,13 @@ fn pane(angle: u8, wind: Wind) -> Pane {
     }
 }
 
-/// The pressure P on a pane with a glass of this thickness.
-fn p(pane: &Pane, thick: u8) -> u32 {
-    Loads::of(pane).pressures[thickness_index(thick)]
-}
-
 #[test]
 fn the_two_rows_of_document_02() {
     assert_eq!(class(1, 1).pressures(), (44, 69));
     assert_eq!(class(10, 2).pressures(), (422, 998));
 }
 
-/// A test over the table itself, since no verdict ever depends on three of its figures: see
-/// `downs_that_can_govern`.
+/// A test over the table itself, since no verdict depends on the downs of N6, C3 and C4.
 #[test]
 fn the_thirty_figures() {
     for class in 1..=10 {
@@ -85,9 +81,8 @@ fn the_verdict_of_the_pane_with_the_pressures() {
             let by_class = pane(angle, class(class_number, zone));
             let by_pressures = pane(angle, right_pressures(class_number, zone));
             for thick in THICKNESSES {
-                let p = p(&by_pressures, thick);
-                assert_eq!(self::p(&by_class, thick), p);
-                let least = (10_000 * p).isqrt();
+                assert_eq!(p(&by_class, thick), p(&by_pressures, thick));
+                let least = (10_000 * p(&by_pressures, thick)).isqrt();
                 for four in [1, least - 1, least, least + 1, 99_999] {
                     let glass = Glass {
                         thick,
@@ -151,32 +146,16 @@ fn clause_4_has_the_pressures_of_the_class() {
     }
 }
 
-/// The pressure down governs where P is more than with no wind down. It takes a difference between up and
-/// down of less than the dead loads, which are at most 114 and 26 together. The difference is 140 or more
-/// in every other case, so that the downs of N6, C3 and C4 never govern.
+/// The pressure down governs where up less down is under the sum of the dead loads, maximum and minimum. That
+/// is at most 140, with 12 mm at 0 degrees, and up less down is over 140 in all other classes and zones.
 #[test]
 fn downs_that_can_govern() {
     let can_govern = |&(class_number, zone): &(u16, u16)| {
-        let (down, up) = class(class_number, zone).pressures();
         let mut places = (0..=74).flat_map(|angle| THICKNESSES.map(|thick| (angle, thick)));
-        places.any(|(angle, thick)| {
-            let p = |down| p(&pane(angle, Wind::Pressures { down, up }), thick);
-            p(down) > p(0)
-        })
+        places.any(|(angle, thick)| down_governs(&pane(angle, class(class_number, zone)), thick))
     };
     let governing: Vec<(u16, u16)> = classes_and_zones().filter(can_govern).collect();
-    let expected = [
-        (1, 1),
-        (1, 2),
-        (2, 1),
-        (2, 2),
-        (3, 1),
-        (4, 1),
-        (5, 1),
-        (7, 1),
-        (8, 1),
-    ];
-    assert_eq!(governing, expected);
+    assert_eq!(governing, DOWN_CAN_GOVERN);
 }
 
 /// The wind is for clause 4 alone.

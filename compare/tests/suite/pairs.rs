@@ -1,8 +1,8 @@
 //! The generated files, the pairs of a pane and a glass in them, and which cases come up among them.
 
-use compare::clauses::{Loads, FAILS_UNIFORM_LOAD, PASSES};
+use compare::clauses::{thickness_index, Loads, FAILS_UNIFORM_LOAD, PASSES};
 use compare::generator::{generate, Kind};
-use compare::job::{Glass, Job, Pane};
+use compare::job::{Glass, Job, Pane, Wind};
 use compare::random::Random;
 use compare::reader::read;
 
@@ -92,4 +92,23 @@ pub fn two_for_four(glass: &Glass) -> Glass {
         four: glass.two,
         ..*glass
     }
+}
+
+/// The pressure P on a pane with a glass of this thickness.
+pub fn p(pane: &Pane, thick: u8) -> u32 {
+    Loads::of(pane).pressures[thickness_index(thick)]
+}
+
+/// Whether P is more than it would be without the pressure down.
+pub fn down_governs(pane: &Pane, thick: u8) -> bool {
+    let (_, up) = pane.wind.pressures();
+    let wind = Wind::Pressures { down: 0, up };
+    p(pane, thick) > p(&Pane { wind, ..*pane }, thick)
+}
+
+/// Whether P is more than it would be without the pressure up.
+pub fn up_governs(pane: &Pane, thick: u8) -> bool {
+    let (down, _) = pane.wind.pressures();
+    let wind = Wind::Pressures { down, up: 0 };
+    p(pane, thick) > p(&Pane { wind, ..*pane }, thick)
 }
