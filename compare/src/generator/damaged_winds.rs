@@ -37,8 +37,8 @@ fn other_letter(letter: u8) -> u8 {
     }
 }
 
-/// The pane of a line by one letter, and somewhere after it again by the other. As pressures, the numbers
-/// of a class are allowed too.
+/// The pane of a line by one letter, and somewhere after it again by the other. As pressures, the
+/// numbers of a class are allowed too.
 fn repeat_by_other_letter(
     lines: &mut Vec<Vec<u8>>,
     at: usize,

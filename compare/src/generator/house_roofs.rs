@@ -64,9 +64,9 @@ fn by_pressures(class: u16, zone: u16, random: &mut Random) -> Wind {
     Wind::Pressures { down, up }
 }
 
-/// A pane for which the strong glass passes in this thickness. The wind is still to be set. With 12 mm up
-/// to 30 degrees, the pressure down governs in every class and zone in which it can. With 6 mm from 70
-/// degrees, the pressure up governs in all.
+/// A pane for which the strong glass passes in this thickness. The wind is still to be set. With 12 mm
+/// up to 30 degrees, the pressure down governs in every class and zone in which it can. With 6 mm from
+/// 70 degrees, the pressure up governs in all.
 fn windless(random: &mut Random) -> (Pane, u8) {
     let (thick, angle) = match random.below(4) {
         0 => (12, random.draw(0..=30)),
@@ -80,8 +80,8 @@ fn windless(random: &mut Random) -> (Pane, u8) {
     (Pane { angle, ..easy }, thick)
 }
 
-/// A pane that is no ribbon, of a span for which 6 mm is enough: with four edges at every angle, with two
-/// from 30 degrees.
+/// A pane that is no ribbon, of a span for which 6 mm is enough: with four edges at every angle, with
+/// two from 30 degrees.
 fn small_pane(angle: u8, random: &mut Random) -> Pane {
     let two_edges = angle >= 30 && random.one_in(2);
     let span = random.draw(100..=650);

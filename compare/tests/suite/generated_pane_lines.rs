@@ -1,5 +1,6 @@
-//! That the generator draws faults of the letters (document 02, 2026-03): letters in the wrong part, small
-//! letters, and letters exchanged, so that pressures become a class and a zone or the other way round.
+//! That the generator draws faults of the letters (document 02, 2026-03): letters in the wrong part,
+//! small letters, and letters exchanged, so that pressures become a class and a zone or the other way
+//! round.
 
 use crate::pairs::not_few;
 use crate::refused_lines::{files_with_faults, refused_lines, RefusedLine};

@@ -146,8 +146,9 @@ fn clause_4_has_the_pressures_of_the_class() {
     }
 }
 
-/// The pressure down governs where up less down is under the sum of the dead loads, maximum and minimum. That
-/// is at most 140, with 12 mm at 0 degrees, and up less down is over 140 in all other classes and zones.
+/// The pressure down governs where up less down is under the sum of the dead loads, maximum and minimum.
+/// That is at most 140, with 12 mm at 0 degrees, and up less down is over 140 in all other classes and
+/// zones.
 #[test]
 fn downs_that_can_govern() {
     let can_govern = |&(class_number, zone): &(u16, u16)| {

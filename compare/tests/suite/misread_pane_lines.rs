@@ -1,5 +1,5 @@
-//! Likely misreadings of document 02, 2026-03, in the lines of the pane part. Each case is a generated file
-//! that a library with the misreading takes otherwise, so that it is found.
+//! Likely misreadings of document 02, 2026-03, in the lines of the pane part. Each case is a generated
+//! file that a library with the misreading takes otherwise, so that it is found.
 
 use crate::pairs::{jobs, not_few};
 use crate::refused_lines::{refused_lines, RefusedLine};

@@ -1,6 +1,6 @@
-//! Likely misreadings of document 02, 2026-03, in the pressures of a wind class. Each case is a generated
-//! pair of a pane and a glass on which the misreading gives another verdict, so that a library with it is
-//! found.
+//! Likely misreadings of document 02, 2026-03, in the pressures of a wind class. Each case is a
+//! generated pair of a pane and a glass on which the misreading gives another verdict, so that a library
+//! with it is found.
 
 use crate::pairs::{each_comes_up, files_with, judge, not_few};
 use crate::table_a2::{
@@ -157,7 +157,7 @@ fn another_order_of_classes() {
         ("C1 to C4 as N3 to N6, of the same speeds", |class, zone| {
             right_pressures(if class > 6 { class - 4 } else { class }, zone)
         }),
-        ("C1 and C2 as N5 and N6", |class, zone| {
+        ("C1 to C4 two rows too early, from N5", |class, zone| {
             right_pressures(if class > 6 { class - 2 } else { class }, zone)
         }),
         ("N5 and N6 as C1 and C2", |class, zone| {

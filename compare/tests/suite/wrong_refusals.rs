@@ -69,7 +69,8 @@ fn ribbons_refused_with_number_7() {
     assert!(found_refused(RIBBON_JOB, Refusal::new(7, 66)));
 }
 
-/// Document 02, 2026-03, lets no call refuse a line for its `Q`, nor for a class or zone that is allowed.
+/// Document 02, 2026-03, lets no call refuse a line for its `Q`, nor for a class or zone that is
+/// allowed.
 #[test]
 fn panes_by_class_refused() {
     assert!(found_refused(HOUSE_JOB, Refusal::new(4, 97)));
