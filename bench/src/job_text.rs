@@ -1,5 +1,6 @@
-//! Writing a job file: document 01, "The job file".
+//! Writing a job file: document 01, "The job file", and document 02, 2026-03.
 
+use compare::job::Wind;
 use compare::random::Random;
 
 const NOTES: &str = "A roof and a rack, made for the benchmark.\n";
@@ -16,7 +17,7 @@ pub struct GlassNumbers {
     pub stock: usize,
 }
 
-/// The numbers of a pane line behind the id.
+/// The numbers of a pane line behind the id. The wind says the letter and the last two.
 #[derive(Clone, Copy)]
 pub struct PaneNumbers {
     pub edges: usize,
@@ -25,8 +26,7 @@ pub struct PaneNumbers {
     pub top: usize,
     pub w: usize,
     pub h: usize,
-    pub down: usize,
-    pub up: usize,
+    pub wind: Wind,
 }
 
 /// A job file of these glasses and panes, under ids of four digits in no order.
@@ -41,9 +41,13 @@ pub fn job_file(glasses: &[GlassNumbers], panes: &[PaneNumbers], random: &mut Ra
     }
     let pane_offset = text.len();
     for (id, p) in ids(random).zip(panes) {
+        let (letter, first, second) = match p.wind {
+            Wind::Pressures { down, up } => ('P', down, up),
+            Wind::Class { class, zone } => ('Q', class, zone),
+        };
         text += &format!(
-            "P {id} {} {} {} {} {} {} {} {}\n",
-            p.edges, p.angle, p.awning, p.top, p.w, p.h, p.down, p.up
+            "{letter} {id} {} {} {} {} {} {} {first} {second}\n",
+            p.edges, p.angle, p.awning, p.top, p.w, p.h
         );
     }
     text += &format!("T {glass_offset:05} {pane_offset:05}\n");

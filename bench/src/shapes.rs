@@ -1,8 +1,9 @@
-//! The jobs that are measured: four hard shapes, each of any size and each by a fixed seed.
+//! The jobs that are measured: five hard shapes, each of any size and each by a fixed seed.
 //!
 //! The lines have the numbers of real roofs: ids of four digits, span constants of five, heights,
 //! winds and slopes that differ from line to line.
 
+use compare::job::Wind;
 use compare::random::Random;
 
 use crate::job_text::{job_file, GlassNumbers, PaneNumbers};
@@ -20,14 +21,17 @@ pub enum Shape {
     RandomIntervals,
     /// A roof and a rack as a glazier has them, by all four clauses, with eight panes to a sheet.
     HeavyShortage,
+    /// Such a roof and rack again, with the wind on every pane by class and two panes to a sheet.
+    HouseRoof,
 }
 
 impl Shape {
-    pub const ALL: [Shape; 4] = [
+    pub const ALL: [Shape; 5] = [
         Shape::AllSuitAll,
         Shape::Chain,
         Shape::RandomIntervals,
         Shape::HeavyShortage,
+        Shape::HouseRoof,
     ];
 
     pub fn name(self) -> &'static str {
@@ -36,6 +40,7 @@ impl Shape {
             Shape::Chain => "chain",
             Shape::RandomIntervals => "random intervals",
             Shape::HeavyShortage => "heavy shortage",
+            Shape::HouseRoof => "house roof",
         }
     }
 
@@ -47,6 +52,7 @@ impl Shape {
             Shape::Chain => chain(glass_count, pane_count, &mut random),
             Shape::RandomIntervals => random_intervals(glass_count, pane_count, &mut random),
             Shape::HeavyShortage => heavy_shortage(glass_count, pane_count, &mut random),
+            Shape::HouseRoof => house_roof(glass_count, pane_count, &mut random),
         };
         job_file(&glasses, &panes, &mut random)
     }
@@ -102,12 +108,30 @@ fn random_intervals(glass_count: usize, pane_count: usize, random: &mut Random) 
 }
 
 fn heavy_shortage(glass_count: usize, pane_count: usize, random: &mut Random) -> Lines {
-    let mut glasses: Vec<_> = (0..glass_count).map(|_| any_glass(random)).collect();
-    for _ in 0..pane_count.div_ceil(8) {
-        glasses[random.below(glass_count)].stock += 1;
-    }
+    let glasses = any_rack(glass_count, pane_count.div_ceil(8), random);
     let panes = (0..pane_count).map(|_| any_pane(random));
     (glasses, panes.collect())
+}
+
+fn house_roof(glass_count: usize, pane_count: usize, random: &mut Random) -> Lines {
+    let glasses = any_rack(glass_count, pane_count.div_ceil(2), random);
+    let panes = (0..pane_count).map(|_| PaneNumbers {
+        wind: Wind::Class {
+            class: random.draw(1..=10),
+            zone: random.draw(1..=2),
+        },
+        ..any_pane(random)
+    });
+    (glasses, panes.collect())
+}
+
+/// Any glasses, with so many sheets together.
+fn any_rack(glass_count: usize, sheets: usize, random: &mut Random) -> Vec<GlassNumbers> {
+    let mut glasses: Vec<_> = (0..glass_count).map(|_| any_glass(random)).collect();
+    for _ in 0..sheets {
+        glasses[random.below(glass_count)].stock += 1;
+    }
+    glasses
 }
 
 /// What the edge cover takes of each side of a sound glass of 12 mm; of one of 10 mm it takes 16.
@@ -152,8 +176,10 @@ fn fair_pane(w: usize, h: usize, random: &mut Random) -> PaneNumbers {
         top: random.draw(2_400..=12_000),
         w,
         h,
-        down: random.draw(10..=140),
-        up: random.draw(10..=240),
+        wind: Wind::Pressures {
+            down: random.draw(10..=140),
+            up: random.draw(10..=240),
+        },
     }
 }
 
@@ -180,8 +206,10 @@ fn any_pane(random: &mut Random) -> PaneNumbers {
         top: random.draw(2_000..=12_000),
         w,
         h: random.draw(w..=2 * w),
-        down: random.draw(0..=150),
-        up: random.draw(0..=250),
+        wind: Wind::Pressures {
+            down: random.draw(0..=150),
+            up: random.draw(0..=250),
+        },
     }
 }
 

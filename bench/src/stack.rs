@@ -23,7 +23,7 @@ const MOST: usize = 1024;
 /// Prints for each call the smallest stack that it returns on.
 pub fn print() -> Result<(), String> {
     println!("The smallest stack of a thread that a call returns on, in units of 1024 bytes,");
-    println!("on the hardest of the four shapes with 64 glasses and 256 panes.");
+    println!("on the hardest of the five shapes with 64 glasses and 256 panes.");
     println!();
     println!("call     stack");
     for call in CALLS {

@@ -1,7 +1,7 @@
 //! That each shape is what it is said to be.
 
 use compare::clauses::{Loads, PASSES};
-use compare::job::{Job, MOST_PANES};
+use compare::job::{Job, Wind, MOST_PANES};
 use compare::reader::read;
 
 use super::Shape;
@@ -138,17 +138,30 @@ fn few_panes_are_placed_in_a_heavy_shortage() {
 }
 
 #[test]
-fn the_largest_heavy_shortage_has_every_verdict() {
-    let job = read(&Shape::HeavyShortage.file(64, 256)).expect("an accepted file");
-    let mut counts = [0; 5];
-    for verdict in verdicts(&job).into_iter().flatten() {
-        counts[verdict] += 1;
+fn a_house_roof_has_every_pane_by_class() {
+    for_each_job(Shape::HouseRoof, |job, _, placing| {
+        let mut winds = job.panes().iter().map(|pane| pane.wind);
+        assert!(winds.all(|wind| matches!(wind, Wind::Class { .. })));
+        assert_eq!(sheets(job), placing.counts.wanted / 2);
+        assert!(placing.counts.placed > 0);
+    });
+}
+
+#[test]
+fn the_largest_real_roofs_have_every_verdict() {
+    for shape in [Shape::HeavyShortage, Shape::HouseRoof] {
+        let job = read(&shape.file(64, 256)).expect("an accepted file");
+        let mut counts = [0; 5];
+        for verdict in verdicts(&job).into_iter().flatten() {
+            counts[verdict] += 1;
+        }
+        // a pass and each of the four clauses, each in over 1 of 32
+        assert!(
+            counts.iter().all(|&count| count > 64 * 256 / 32),
+            "{}: {counts:?}",
+            shape.name()
+        );
     }
-    // a pass and each of the four clauses, each in over 1 of 32
-    assert!(
-        counts.iter().all(|&count| count > 64 * 256 / 32),
-        "{counts:?}"
-    );
 }
 
 /// The numbers of the glasses that pass, in order.

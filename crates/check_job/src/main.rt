@@ -4,6 +4,7 @@
 // arguments each is the name of a file, and a line for each begins with that name. The refusal of a single file is also put
 // in plain words, on standard error.
 mod place;
+mod wind;
 mod words;
 
 use job_file::Checked;
@@ -61,7 +62,7 @@ fn answer_for(file: &[u8], is_single: bool) {
         Checked::Refused { cause, offset } => {
             job_tool::write_refusal(cause, offset);
             if is_single {
-                words::explain(cause, offset, place::line_number(file, offset));
+                words::explain(cause, file, offset);
             }
         }
     }
