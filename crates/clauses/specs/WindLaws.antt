@@ -2,11 +2,10 @@
 use Prim.Native.Nat.{ℕ}
 use mathlib.Core.Path.{_≡_}
 use Rattle.job_glass.specs.declared.Glass.{Glass}
-use Rattle.job_pane.specs.Wind.{withWind}
 use Rattle.job_pane.specs.declared.Pane.{Pane}
 use Rattle.job_pane.specs.declared.Wind.the-variants.{ByPressure, ByClass}
 use Rattle.wind_classes.specs.ClassPressures.{classPressures}
-use Rattle.uniform_load.specs.AsPressures.{asPressures}
+use Rattle.uniform_load.specs.AsPressures.{withWind, asPressures}
 use Rattle.clauses.specs.Verdict.{verdictOf}
 
 pub record WindLaws (p : Pane) (g : Glass) : Type 0 where

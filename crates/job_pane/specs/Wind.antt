@@ -6,7 +6,6 @@ use lib.Dec.{leb, eqb}
 use Rattle.basics.specs.Choice.{if_then_else_}
 use Rattle.job_line.specs.Bytes.{letterQ}
 use Rattle.job_part.specs.Part.{between}
-use Rattle.job_pane.specs.declared.Pane.{Pane}
 use Rattle.job_pane.specs.declared.Wind.{Wind}
 use Rattle.job_pane.specs.declared.Wind.the-variants.{ByPressure, ByClass}
 
@@ -18,16 +17,3 @@ windOf letter first second = if eqb letter letterQ then ByClass first second els
 abbrev pub allowedWind : Wind → Bool
 allowedWind (ByPressure down up) = leb down 1000 && leb up 1000
 allowedWind (ByClass class zone) = between 1 10 class && between 1 2 zone
-
--- A pane with another wind, and else the same.
-abbrev pub withWind : Wind → Pane → Pane
-withWind wind p = record {
-  id = p .id;
-  edges = p .edges;
-  angle = p .angle;
-  awning = p .awning;
-  top = p .top;
-  w = p .w;
-  h = p .h;
-  wind = wind;
-}

@@ -3,10 +3,23 @@ use Prim.Native.Nat.{ℕ}
 use mathlib.Core.Path.{_≡_}
 use lib.Dec.{T}
 use Rattle.job_pane.specs.PaneLine.{allowedPane}
-use Rattle.job_pane.specs.Wind.{withWind}
 use Rattle.job_pane.specs.declared.Pane.{Pane}
+use Rattle.job_pane.specs.declared.Wind.{Wind}
 use Rattle.job_pane.specs.declared.Wind.the-variants.{ByPressure}
 use Rattle.uniform_load.specs.Wind.{pressuresOf}
+
+-- A pane with another wind, and else the same.
+abbrev pub withWind : Wind → Pane → Pane
+withWind wind p = record {
+  id = p .id;
+  edges = p .edges;
+  angle = p .angle;
+  awning = p .awning;
+  top = p .top;
+  w = p .w;
+  h = p .h;
+  wind = wind;
+}
 
 -- The `P` pane with the pressures of a pane's wind.
 abbrev pub asPressures : Pane → Pane
