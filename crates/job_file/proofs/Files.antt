@@ -4,7 +4,7 @@
 --     file-short, file-over                         cause 1
 --     file-trailer, file-order, file-beyond         causes 2 and 3
 --     file-parts                                    none of them
---     job-whole                                     two parts that were read whole
+--     parts-job                                     the job of two parts that were read
 use Prim.Native.Nat.{ℕ, _+_, _-_, _≤_, _<_}
 use mathlib.Core.Path.{_≡_}
 use mathlib.Core.List.{List}
@@ -18,10 +18,16 @@ use Rattle.job_part.specs.Part.{whole, stopped, partLines}
 use Rattle.job_glass.specs.GlassLine.{glassForm, blankGlass}
 use Rattle.job_pane.specs.PaneLine.{paneForm, blankPane}
 use Rattle.job_file.specs.File.{part, trailer, offsets, noTrailer, accepted, refused, partsOutcome, outcomeOf}
-use Rattle.job_part.proofs.Ends.{WholePart}
-use Rattle.job_file.specs.Internal.Job.{jobOf}
+use Rattle.job_part.specs.Internal.Arrays.{PartRead}
+use Rattle.job_part.specs.declared.PartEnd.{PartEnd}
+use Rattle.job_part.specs.declared.PartEnd.the-variants.{Whole, Stopped}
+use Rattle.job_part.proofs.Ends.{WholePart, part-stopped, part-whole}
+use Rattle.job_file.specs.Internal.Job.{jobOf, jobIn}
+use Rattle.job_file.specs.Internal.Parts.{partsJob}
 use Rattle.job_glass.specs.declared.Glass.{Glass}
+use Rattle.job_glass.specs.declared.GlassPart.{GlassPart}
 use Rattle.job_pane.specs.declared.Pane.{Pane}
+use Rattle.job_pane.specs.declared.PanePart.{PanePart}
 use Rattle.job_file.specs.declared.Checked.the-variants.{Accepted}
 
 module _ (file : List ℕ) (glass pane end : ℕ) where
@@ -81,9 +87,34 @@ module _ (file : List ℕ) where
             rw (le-ltb (length file) 14 long, le-ltb 65535 (length file) fits, read)
             (rw (le-leb glass pane order, le-leb pane (length file - 14) inside))
 
-pub job-whole :
+job-whole :
     (pane end : ℕ) (glassPart panePart : List ℕ) (gs : List Glass) (ps : List Pane) (n m : ℕ)
     (g : WholePart glassForm blankGlass pane glassPart gs n) (p : WholePart paneForm blankPane end panePart ps m) →
     record { checked = Accepted n m; glasses = gs; «glass_count» = n; panes = ps; «pane_count» = m }
     ≡ jobOf (g .entries) (p .entries)
 job-whole pane end glassPart panePart gs ps n m g p = cc
+
+module _ (file : List ℕ) (glass pane end : ℕ) where
+  pub parts-job :
+      (glasses : GlassPart) (panes : PanePart) →
+      PartRead glassForm blankGlass pane (part file glass pane) (glasses .glasses) (glasses .end) →
+      PartRead paneForm blankPane end (part file pane end) (panes .panes) (panes .end) →
+      partsJob glasses panes ≡ jobIn (partsOutcome file glass pane end)
+  parts-job glasses panes first second = go (glasses .end) (panes .end) first second
+    where
+      go :
+          (g p : PartEnd) →
+          PartRead glassForm blankGlass pane (part file glass pane) (glasses .glasses) g →
+          PartRead paneForm blankPane end (part file pane end) (panes .panes) p →
+          partsJob (record { end = g; glasses = glasses .glasses }) (record { end = p; panes = panes .panes })
+          ≡ jobIn (partsOutcome file glass pane end)
+      go (Stopped cause at) p first second =
+          rw (parts-glass file glass pane end cause at (part-stopped glassForm _ _ _ _ _ _ first))
+      go (Whole n) (Stopped cause at) first second =
+          let gs = part-whole glassForm _ _ _ _ _ first in
+          rw (parts-pane file glass pane end (gs .entries) (gs .lines-are) cause at (part-stopped paneForm _ _ _ _ _ _ second))
+      go (Whole n) (Whole m) first second =
+          let gs = part-whole glassForm _ _ _ _ _ first in
+          let ps = part-whole paneForm _ _ _ _ _ second in
+          rw (parts-whole file glass pane end (gs .entries) (gs .lines-are) (ps .entries) (ps .lines-are))
+          (job-whole _ _ _ _ _ _ _ _ gs ps)
