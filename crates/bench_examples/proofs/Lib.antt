@@ -8,4 +8,4 @@ pub mod Examples
 -- What `canopy` prints of them.
 pub mod Texts
 -- The rows of wind classes that document 02 states.
-pub mod HouseRoofs
+pub mod WindRows

@@ -4,4 +4,4 @@ pub mod Examples
 pub mod Files
 pub mod Texts
 -- The rows of wind classes that document 02 states.
-pub mod HouseRoofs
+pub mod WindRows

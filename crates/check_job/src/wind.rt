@@ -1,6 +1,8 @@
 // The wind of a `Q` line that has numbers out of range: specs/Internal/WindFault.antt.
 use job_line::LineEnd;
 use job_line::read_line;
+use job_pane::Wind;
+use job_pane::is_allowed_wind;
 ghost use mathlib.Core.Path.{_≡_};
 ghost use lib.ListN.{drop};
 ghost use Rattle.job_line.specs.Bytes.{letterQ};
@@ -25,15 +27,15 @@ pub(crate) fn line_fault(file: &[u8], offset: usize) -> WindFault
     }
 }
 
-// The class is looked at first.
+// What is wrong with a class and a zone, by the reader's own test.
 fn fault_of(class: u32, zone: u32) -> WindFault
     ensures { λ r. ⌜ r ≡ faultOf class zone ⌝ }
 {
-    if (class < 1) | (10 < class) {
-        WindFault::NoClass
-    } else if (zone < 1) | (2 < zone) {
+    if is_allowed_wind(Wind::ByClass { class, zone }) {
+        WindFault::NoFault
+    } else if is_allowed_wind(Wind::ByClass { class, zone: 1 }) {
         WindFault::NoZone
     } else {
-        WindFault::NoFault
+        WindFault::NoClass
     }
 }

@@ -18,6 +18,7 @@ pub(crate) fn explain(cause: Cause, file: &[u8], offset: usize) {
     job_tool::say_cause(cause);
     match cause {
         Cause::NumberValue => say_wind(line_fault(file, offset)),
+        Cause::LineForm => say_letter(file, offset),
         _ => {}
     }
     say(b"\n");
@@ -27,11 +28,20 @@ pub(crate) fn explain(cause: Cause, file: &[u8], offset: usize) {
 fn say_wind(fault: WindFault) {
     match fault {
         WindFault::NoClass => say(
-            b"; the class of a Q line is 1 to 10: 1 N1, 2 N2, 3 N3, 4 N4, 5 N5, 6 N6, 7 C1, 8 C2, 9 C3, 10 C4",
+            b"; the class of a Q line is 1 to 6 for N1 to N6, or 7 to 10 for C1 to C4",
         ),
         WindFault::NoZone => say(
             b"; the zone of a Q line is 1, away from the edges of the roof, or 2, up to 1.2 m from one",
         ),
         WindFault::NoFault => {}
+    }
+}
+
+// Of a line that begins with `Q`: its class may have been written by its name.
+fn say_letter(file: &[u8], offset: usize) {
+    if offset < file.len() {
+        if file[offset] == b'Q' {
+            say(b"; the class of a Q line is a number, 2 for N2");
+        }
     }
 }

@@ -8,4 +8,4 @@ use Rattle.clauses.specs.WindLaws.{WindLaws}
 
 pub wind-laws : (p : Pane) (g : Glass) → WindLaws p g
 unfolding verdictOf
-wind-laws p g = record { by-class = λ class zone. refl; as-pressures = refl }
+wind-laws p g = record { by-pressures = refl; by-class = λ class zone. refl }

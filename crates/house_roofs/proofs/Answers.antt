@@ -5,20 +5,18 @@ use Prim.Native.Nat.{ℕ}
 use mathlib.Core.Path.{_≡_, refl, sym, ap, subst, _∙_}
 use mathlib.Core.List.{List, map}
 use lib.ListN.{length, length-map}
-use Rattle.ids.specs.Lookup.{placeOf}
-use Rattle.ids.specs.declared.IdPlace.{IdPlace}
-use Rattle.ids.specs.declared.IdPlace.the-variants.{At, Missing}
-use Rattle.causes.specs.Answer.{Answer, gives, refusal}
-use Rattle.causes.specs.declared.Cause.the-variants.{NoPane, NoGlass}
+use Rattle.causes.specs.Answer.{gives}
 use Rattle.job_glass.specs.declared.Glass.{Glass}
 use Rattle.job_pane.specs.declared.Pane.{Pane}
 use Rattle.job_file.specs.File.{accepted}
-use Rattle.job_file.specs.Entries.{glassAt, paneAt, glassIdsOf, paneIdsOf, stocksOf}
+use Rattle.job_file.specs.Entries.{glassIdsOf, paneIdsOf, stocksOf}
 use Rattle.job_grammar.proofs.Grammar.{complete, sound}
 use Rattle.uniform_load.specs.AsPressures.{asPressures}
-use Rattle.clauses.specs.Verdict.{verdictOf}
 use Rattle.clauses.specs.VerdictAnswer.{verdictAnswer}
-use Rattle.clauses.specs.declared.judging.Verdict.{Verdict}
+use Rattle.clauses.specs.Internal.Pair.{pairOf, pairAnswer}
+use Rattle.clauses.specs.declared.question.PairPlace.{PairPlace}
+use Rattle.clauses.specs.declared.question.PairPlace.the-variants.{Both, Unknown}
+use Rattle.clauses.proofs.Laws.{answer-pair}
 use Rattle.row_placing.specs.Glazing.{Glazing}
 use Rattle.placing.specs.FileSchedule.{scheduleOf}
 use Rattle.placing.specs.Promise.{Call, Promised}
@@ -30,35 +28,27 @@ module _ (glasses : List Glass) (panes : List Pane) where
   abbrev pressures : List Pane
   pressures = map asPressures panes
 
-  -- The answer to a question, by the places of the two ids.
-  abbrev ruling : List Pane → (pane glass : IdPlace) → Answer Verdict
-  ruling ps pane glass =
-      elim pane [
-        | Missing ↦ refusal NoPane 0
-        | At p ↦
-            elim glass [
-              | Missing ↦ refusal NoGlass 0
-              | At g ↦ gives (verdictOf (paneAt ps p) (glassAt glasses g))
-            ]
-      ]
-
-  same-ruling : (pane glass : IdPlace) → ruling pressures pane glass ≡ ruling panes pane glass
-  same-ruling Missing glass = refl
-  same-ruling (At p) Missing = refl
-  same-ruling (At p) (At g) = ap gives (verdict-same glasses panes p g)
+  same-pair : (pair : PairPlace) → pairAnswer glasses pressures pair ≡ pairAnswer glasses panes pair
+  same-pair (Unknown cause) = refl
+  same-pair (Both p g) = ap gives (verdict-same glasses panes p g)
 
   same-answer :
       (pane glass : ℕ) → verdictAnswer (accepted glasses pressures) pane glass ≡ verdictAnswer (accepted glasses panes) pane glass
-  unfolding verdictAnswer
   same-answer pane glass =
-      let of-glass = placeOf glass (glassIdsOf glasses) in
-      ap (λ ids. ruling pressures (placeOf pane ids) of-glass) (ids-same panes)
-      ∙ same-ruling (placeOf pane (paneIdsOf panes)) of-glass
+      answer-pair glasses pressures pane glass
+      ∙ ap (λ ids. pairAnswer glasses pressures (pairOf (glassIdsOf glasses) ids pane glass)) (ids-same panes)
+      ∙ same-pair (pairOf (glassIdsOf glasses) (paneIdsOf panes) pane glass)
+      ∙ sym (answer-pair glasses panes pane glass)
 
--- Two lists of panes, of which the same is to be placed under the same ids.
+-- Two lists of panes, of which the same is to be placed.
 module _ (glasses : List Glass) (panes others : List Pane)
-    (schedule : scheduleOf glasses (stocksOf glasses) panes ≡ scheduleOf glasses (stocksOf glasses) others)
-    (ids : paneIdsOf panes ≡ paneIdsOf others) (count : length panes ≡ length others) where
+    (schedule : scheduleOf glasses (stocksOf glasses) panes ≡ scheduleOf glasses (stocksOf glasses) others) where
+  ids : paneIdsOf panes ≡ paneIdsOf others
+  ids = ap (λ s. s .pane-ids) schedule
+
+  count : length panes ≡ length others
+  count = sym (length-map panes (λ p. p .id)) ∙ ap length ids ∙ length-map others (λ p. p .id)
+
   promise-kept : (c : Call) → Promised (accepted glasses panes) c → Promised (accepted glasses others) c
   unfolding Promised
   promise-kept c promised = rw (schedule, count) at promised
@@ -75,20 +65,12 @@ module _ (glasses : List Glass) (panes others : List Pane)
 same-answers : (glasses : List Glass) (panes : List Pane) → SameAnswers (accepted glasses panes) (accepted glasses (map asPressures panes))
 same-answers glasses panes =
     let pressures = map asPressures panes in
-    let schedule = schedule-same glasses panes (stocksOf glasses) in
-    let ids = ids-same panes in
-    let count = length-map panes asPressures in
+    let same = schedule-same glasses panes (stocksOf glasses) in
     record {
-      check = rw count;
+      check = rw (length-map panes asPressures);
       verdict = same-answer glasses panes;
-      place = λ c. (
-        promise-kept glasses pressures panes schedule ids count c,
-        promise-kept glasses panes pressures (sym schedule) (sym ids) (sym count) c,
-      );
-      report = λ text. (
-        text-kept glasses pressures panes schedule ids count text,
-        text-kept glasses panes pressures (sym schedule) (sym ids) (sym count) text,
-      );
+      place = λ c. (promise-kept glasses pressures panes same c, promise-kept glasses panes pressures (sym same) c);
+      report = λ text. (text-kept glasses pressures panes same text, text-kept glasses panes pressures (sym same) text);
     }
 
 pub p-lines : PLines

@@ -14,9 +14,8 @@ use Rattle.job_pane.specs.PaneLine.{allowedPane, paneForm, blankPane}
 use Rattle.job_pane.specs.declared.Pane.{Pane}
 use Rattle.job_file.specs.Entries.{glassAt, paneAt, glassIdsOf, paneIdsOf}
 use Rattle.uniform_load.specs.AsPressures.{asPressures}
-use Rattle.uniform_load.proofs.AsPressures.{as-pressures}
 use Rattle.clauses.specs.Verdict.{verdictOf}
-use Rattle.clauses.proofs.Laws.{wind-laws}
+use Rattle.clauses.proofs.Laws.{wind-laws, as-pressures-laws}
 use Rattle.row_placing.specs.Schedule.{Schedule}
 use Rattle.row_placing.specs.Placing.{Placing, FullPlacing}
 use Rattle.row_placing.specs.ShortGroup.{ShortGroup}
@@ -32,7 +31,7 @@ module _ (glasses : List Glass) (panes : List Pane) where
       (p g : ℕ) → verdictOf (paneAt (map asPressures panes) p) (glassAt glasses g) ≡ verdictOf (paneAt panes p) (glassAt glasses g)
   verdict-same p g =
       ap (λ x. verdictOf x (glassAt glasses g)) (List·getD-map asPressures panes p blankPane)
-      ∙ wind-laws (paneAt panes p) (glassAt glasses g) .as-pressures
+      ∙ wind-laws (paneAt panes p) (glassAt glasses g) .by-pressures
 
   pub schedule-same : (sheets : List ℕ) → scheduleOf glasses sheets (map asPressures panes) ≡ scheduleOf glasses sheets panes
   schedule-same sheets = λ i. record {
@@ -58,7 +57,7 @@ same-to-place stated pressures same = record {
 every-pressures : (panes : List Pane) → Every allowedPane panes → Every allowedPane (map asPressures panes)
 unfolding Every
 every-pressures [] h = tt
-every-pressures (p ∷ panes) h = (as-pressures p .allowed-kept (h .0), every-pressures panes (h .1))
+every-pressures (p ∷ panes) h = (as-pressures-laws p .allowed-kept (h .0), every-pressures panes (h .1))
 
 pane-rules : (panes : List Pane) → PartRules paneForm panes → PartRules paneForm (map asPressures panes)
 pane-rules panes r = record {

@@ -16,7 +16,8 @@ use Rattle.basics.specs.Choice.{if_then_else_}
 use Rattle.basics.proofs.Tests.{clash}
 use Rattle.job_line.specs.Bytes.{letterG, letterP, letterQ}
 use Rattle.job_glass.specs.GlassLine.{glassForm}
-use Rattle.job_pane.specs.Wind.{windOf}
+use Rattle.job_pane.specs.StatedWind.{windOf}
+use Rattle.job_pane.specs.OtherWind.{withWind}
 use Rattle.job_pane.specs.PaneLine.{takesPane, paneForm}
 use Rattle.job_pane.specs.Internal.Values.{WindValues}
 use Rattle.job_part.specs.Part.{whole, partLines}
@@ -101,16 +102,7 @@ pane-writer = record {
   takes-letter = λ p. wind-taken (p .wind);
   takes-no-zero = refl;
   count-is = λ p. rw (two-numbers (p .wind));
-  entry-of = λ p i. record {
-    id = p .id;
-    edges = p .edges;
-    angle = p .angle;
-    awning = p .awning;
-    top = p .top;
-    w = p .w;
-    h = p .h;
-    wind = wind-is (p .wind) i;
-  };
+  entry-of = λ p i. withWind (wind-is (p .wind) i) p;
   letter-of-entry = λ letter ns known. letter-of-wind letter (getD ns 7 0) (getD ns 8 0) known;
   of-entry = λ letter ns e. rw (numbers-of-wind letter (getD ns 7 0) (getD ns 8 0)) (numbers-from 9 0 ns e);
   small = λ p h.

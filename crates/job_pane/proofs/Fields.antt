@@ -5,7 +5,7 @@ use mathlib.Core.List.{List}
 use lib.Dec.{lit<}
 use lib.ListN.{take}
 use lib.Seq.{getD-take}
-use Rattle.job_pane.specs.Wind.{windOf}
+use Rattle.job_pane.specs.StatedWind.{windOf}
 use Rattle.job_pane.specs.PaneLine.{paneOf}
 
 pub pane-of-first : (letter : ℕ) (ns : List ℕ) → paneOf letter ns ≡ paneOf letter (take 9 ns)

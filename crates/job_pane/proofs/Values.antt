@@ -6,7 +6,7 @@ use native.Mathlib.Omega.{arith}
 use lib.Dec.{T, eqb, eqb→eq}
 use Rattle.basics.proofs.Tests.{and-iff, leb-iff, one-of}
 use Rattle.job_pane.specs.PaneLine.{allowedPane}
-use Rattle.job_pane.specs.Wind.{allowedWind}
+use Rattle.job_pane.specs.StatedWind.{allowedWind}
 use Rattle.job_pane.specs.Internal.Values.{WindValues, PaneValues}
 use Rattle.job_pane.specs.declared.Pane.{Pane}
 use Rattle.job_pane.specs.declared.Wind.{Wind}

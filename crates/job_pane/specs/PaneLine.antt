@@ -7,7 +7,7 @@ use lib.Dec.{leb, eqb}
 use lib.ListN.{getD}
 use Rattle.job_line.specs.Bytes.{letterP, letterQ}
 use Rattle.job_part.specs.Part.{Form, between}
-use Rattle.job_pane.specs.Wind.{windOf, allowedWind}
+use Rattle.job_pane.specs.StatedWind.{windOf, allowedWind}
 use Rattle.job_pane.specs.declared.Pane.{Pane}
 use Rattle.job_pane.specs.declared.Wind.the-variants.{ByPressure}
 

@@ -1,10 +1,11 @@
-// The pane part of a job file: document 01, "The job file".
+// The pane part of a job file: document 01, "The job file", and document 02, 2026-03.
 mod panes;
 mod winds;
 
 use job_part::PartEnd;
 pub use panes::NO_PANE;
 pub use panes::read_panes;
+pub use winds::is_allowed_wind;
 
 // The wind on a pane, as its line states it.
 pub enum Wind {

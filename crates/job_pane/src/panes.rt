@@ -14,8 +14,6 @@ ghost use mathlib.Core.Path.{_≡_};
 ghost use mathlib.Core.List.{List};
 ghost use Prim.Native.Nat.{ℕ, _+_, _≤_};
 ghost use lib.ListN.{length, take, drop};
-ghost use Rattle.job_line.specs.Bytes.{letterP, nothing};
-ghost use Rattle.job_line.specs.Line.{line, only};
 ghost use Rattle.job_pane.specs.PaneLine.{paneOf, allowedPane, paneForm, blankPane};
 ghost use Rattle.job_part.specs.Part.{judged, judgedEntry};
 ghost use Rattle.job_pane.specs.Internal.Steps.{PaneRead};
@@ -77,7 +75,7 @@ pub fn read_panes(part: &[u8], offset: usize) -> PanePart
     }
 }
 
-// The pane line at a position, behind lines whose ids are in a set.
+// The pane line at a position, of the letter `P` or else of `Q`, behind lines whose ids are in a set.
 fn read_pane(part: &[u8], at: usize, seen: &[u64; 157]) -> PaneLine
     ensures { λ r. ⌜ ((ids : List ℕ) → IdSet (now (seen .entry)) ids →
         PaneRead (now (part .entry)) (judged paneForm ids (drop at (now (part .entry)))) r) ⌝ }
@@ -85,20 +83,13 @@ fn read_pane(part: &[u8], at: usize, seen: &[u64; 157]) -> PaneLine
     let mut numbers = [0u32; 9];
     match read_line(part, at, b'P', 9, &mut numbers) {
         LineEnd::Next(next) => judge_pane(pane_of(b'P', numbers), next, seen),
-        LineEnd::NotALine => read_class_pane(part, at, seen),
-    }
-}
-
-// The same, where there is no line of the letter `P`.
-fn read_class_pane(part: &[u8], at: usize, seen: &[u64; 157]) -> PaneLine
-    requires { ⌜ line (only letterP) 9 (drop at (now part)) ≡ nothing ⌝ }
-    ensures { λ r. ⌜ ((ids : List ℕ) → IdSet (now (seen .entry)) ids →
-        PaneRead (now (part .entry)) (judged paneForm ids (drop at (now (part .entry)))) r) ⌝ }
-{
-    let mut numbers = [0u32; 9];
-    match read_line(part, at, b'Q', 9, &mut numbers) {
-        LineEnd::Next(next) => judge_pane(pane_of(b'Q', numbers), next, seen),
-        LineEnd::NotALine => PaneLine::FaultyPane(Cause::LineForm),
+        LineEnd::NotALine => {
+            let mut numbers = [0u32; 9];
+            match read_line(part, at, b'Q', 9, &mut numbers) {
+                LineEnd::Next(next) => judge_pane(pane_of(b'Q', numbers), next, seen),
+                LineEnd::NotALine => PaneLine::FaultyPane(Cause::LineForm),
+            }
+        }
     }
 }
 

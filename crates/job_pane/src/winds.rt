@@ -1,7 +1,7 @@
-// The wind that a pane line states: specs/Wind.antt.
+// The wind that a pane line states: specs/StatedWind.antt.
 use crate::Wind;
 ghost use mathlib.Core.Path.{_≡_};
-ghost use Rattle.job_pane.specs.Wind.{windOf, allowedWind};
+ghost use Rattle.job_pane.specs.StatedWind.{windOf, allowedWind};
 
 // What the last two numbers of a pane line state, by its letter.
 pub(crate) fn wind_of(letter: u8, first: u32, second: u32) -> Wind
@@ -21,7 +21,7 @@ pub(crate) fn wind_of(letter: u8, first: u32, second: u32) -> Wind
 }
 
 // Whether both numbers of a wind are among their allowed values.
-pub(crate) fn is_allowed_wind(wind: Wind) -> bool
+pub fn is_allowed_wind(wind: Wind) -> bool
     ensures { λ r. ⌜ r ≡ allowedWind wind ⌝ }
 {
     match wind {

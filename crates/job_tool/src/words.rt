@@ -44,7 +44,7 @@ pub fn say_cause(cause: Cause) {
             b"the last line's numbers, where the glass part and the pane part begin, are out of order or too large",
         ),
         Cause::LineForm => say(
-            b"the line is not G and 8 numbers, or P or Q and 9, with one space before each, no zeros in front and a newline; a wind class is a number too, 2 for N2",
+            b"the line is not G and 8 numbers, or P or Q and 9, with one space before each, no zeros in front and a newline",
         ),
         Cause::NumberValue => say(
             b"a number is not among its allowed values; compare the line with the description of the job file",

@@ -3,31 +3,18 @@ use Prim.Native.Nat.{ℕ}
 use mathlib.Core.Path.{_≡_}
 use lib.Dec.{T}
 use Rattle.job_pane.specs.PaneLine.{allowedPane}
+use Rattle.job_pane.specs.OtherWind.{withWind}
 use Rattle.job_pane.specs.declared.Pane.{Pane}
-use Rattle.job_pane.specs.declared.Wind.{Wind}
 use Rattle.job_pane.specs.declared.Wind.the-variants.{ByPressure}
 use Rattle.uniform_load.specs.Wind.{pressuresOf}
-
--- A pane with another wind, and else the same.
-abbrev pub withWind : Wind → Pane → Pane
-withWind wind p = record {
-  id = p .id;
-  edges = p .edges;
-  angle = p .angle;
-  awning = p .awning;
-  top = p .top;
-  w = p .w;
-  h = p .h;
-  wind = wind;
-}
 
 -- The `P` pane with the pressures of a pane's wind.
 abbrev pub asPressures : Pane → Pane
 asPressures p = withWind (ByPressure (pressuresOf (p .wind) .down) (pressuresOf (p .wind) .up)) p
 
 pub record AsPressuresLaws (p : Pane) : Type 0 where
-  -- the wind on it is the same
-  pub wind-kept : pressuresOf (asPressures p .wind) ≡ pressuresOf (p .wind)
+  -- its pressures are those of the pane's wind
+  pub pressures-kept : pressuresOf (asPressures p .wind) ≡ pressuresOf (p .wind)
   -- its numbers are among their allowed values where those of the pane are
   pub allowed-kept : T (allowedPane p) → T (allowedPane (asPressures p))
   -- a `P` pane is its own

@@ -3,7 +3,7 @@ use mathlib.Core.Path.{_≡_}
 use Rattle.job_pane.specs.declared.Wind.the-variants.{ByClass}
 use Rattle.uniform_load.specs.Wind.{pressuresOf}
 
-pub record HouseRoofs : Type 0 where
+pub record WindRows : Type 0 where
   -- N1, zone 1
   pub n1-general : pressuresOf (ByClass 1 1) ≡ record { down = 44; up = 69 }
   -- C4, zone 2
