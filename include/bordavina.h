@@ -10,8 +10,9 @@
  * A job file has a line for each glass, with the letter G, and for each pane, with the letter P or Q. The numbers of both pane
  * lines are the same but for the last two: wind pressures down and up, 0 to 1000 in units of 0.01 kPa, on a P line; a wind class,
  * 1 to 10 for N1 to N6 and C1 to C4, and a zone, 1 or 2, on a Q line. A class and a zone stand for the ultimate pressures on
- * roofs of AS 1288, Table A2: zone 1 is away from edges, zone 2 within 1.2 m of one. A P pane with those pressures gets the same
- * verdicts. Before request 2026-03, Q lines were refused with BORDAVINA_LINE_FORM. */
+ * roofs of AS 1288, Table A2: zone 1 is away from edges, zone 2 within 1.2 m of one. For which houses the table is meant is not
+ * checked. A P pane with those pressures gets the same verdicts. Before request 2026-03, Q lines were refused with
+ * BORDAVINA_LINE_FORM. */
 #ifndef BORDAVINA_H
 #define BORDAVINA_H
 

@@ -1,5 +1,5 @@
--- Every call answers alike of a job as its lines state it and as pressures: both have the same ids, counts and schedule, and the same
--- verdict of each pane and glass.
+-- The calls answer or promise the same of a job as its lines state it and as pressures: both have the same ids, counts and schedule, and
+-- the same verdict of each pane and glass.
 --     p-lines, answers-alike    as specs/SameAnswers.antt states them
 use Prim.Native.Nat.{ℕ}
 use mathlib.Core.Path.{_≡_, refl, sym, ap, subst, _∙_}

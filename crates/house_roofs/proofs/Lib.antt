@@ -1,4 +1,4 @@
 -- What is to be placed is the same.
 pub mod Roofs
--- Every call answers alike.
+-- So is what the calls answer or promise.
 pub mod Answers

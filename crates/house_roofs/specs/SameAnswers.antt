@@ -1,4 +1,5 @@
--- Document 02, 2026-03: of an accepted file and of the file that is written for its job with `P` lines alone, every call answers alike.
+-- Document 02, 2026-03: an accepted file, and the file that is written for its job with `P` lines alone. Of both `check` and `verdict`
+-- answer the same, and the same is promised of `place` and `report`, which leave a choice.
 use Prim.Native.Nat.{ℕ, _≤_}
 use mathlib.Core.Path.{_≡_}
 use mathlib.Core.Logic.{_↔_}
@@ -15,7 +16,7 @@ use Rattle.clauses.specs.VerdictAnswer.{verdictAnswer}
 use Rattle.placing.specs.Promise.{Call, Promised}
 use Rattle.report.specs.Reported.{TextOf}
 
--- What the calls answer of two files, by what each file says. Of `place` and `report`, which leave a choice, the same is promised.
+-- What the calls answer or promise of two files, by what each file says.
 pub record SameAnswers (stated pressures : Outcome) : Type 0 where
   pub check : checkAnswer pressures ≡ checkAnswer stated
   pub verdict : (pane glass : ℕ) → verdictAnswer pressures pane glass ≡ verdictAnswer stated pane glass

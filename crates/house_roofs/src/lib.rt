@@ -1,1 +1,1 @@
-// House roofs by wind class: no code, only the theorem that their jobs have the answers of the jobs by pressures.
+// House roofs by wind class: no code, only theorems on a job by class and the same job by pressures.

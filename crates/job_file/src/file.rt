@@ -55,8 +55,8 @@ fn read_parts(file: &[u8], glass: usize, pane: usize, end: usize) -> Job
 }
 
 // The job of two parts that were read, with blank arrays where one of them is refused. The arrays are taken out of the parts before
-// that is known, and the job is made in one place: so they are copied once. The compiler does not spare a copy that it makes on some
-// ways alone.
+// that is known, and the job is made in one place, so that they are copied once: the compiler drops such a copy only where every path
+// makes it. Hence no call of `refusal`.
 fn job_of(first: GlassPart, second: PanePart) -> Job
     ensures { λ r. ⌜ r ≡ partsJob first second ⌝ }
 {
