@@ -1,3 +1,4 @@
+-- Panes that differ in their wind alone, for the laws that compare them.
 use Rattle.job_pane.specs.declared.Pane.{Pane}
 use Rattle.job_pane.specs.declared.Wind.{Wind}
 

@@ -84,6 +84,7 @@ fn read_pane(part: &[u8], at: usize, seen: &[u64; 157]) -> PaneLine
     match read_line(part, at, b'P', 9, &mut numbers) {
         LineEnd::Next(next) => judge_pane(pane_of(b'P', numbers), next, seen),
         LineEnd::NotALine => {
+            // not the array above: nothing tells its length any more, once it was lent
             let mut numbers = [0u32; 9];
             match read_line(part, at, b'Q', 9, &mut numbers) {
                 LineEnd::Next(next) => judge_pane(pane_of(b'Q', numbers), next, seen),

@@ -14,7 +14,7 @@ use Rattle.uniform_load.specs.Wind.{pressuresOf}
 -- What governs: the maximum dead load with the wind on it, or the wind from below less the minimum. `-` gives 0 where a difference
 -- would be negative.
 abbrev pub governing : (maximum minimum : ℕ) → Pressures → ℕ
-governing maximum minimum wind = max (maximum + wind .down) (wind .up - minimum)
+governing maximum minimum pressures = max (maximum + pressures .down) (pressures .up - minimum)
 
 -- P, from the dead loads of the glass at the pane's angle and the wind on the pane.
 abbrev pub designPressure : Pane → Glass → ℕ

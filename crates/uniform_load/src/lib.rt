@@ -26,8 +26,8 @@ pub struct UniformLoad {
     // the rows of Table 6.1 for the maximum and the minimum, in units of 0.01 kPa
     pub most: u32,
     pub least: u32,
-    // wind, in units of 0.01 kPa
-    pub wind: Pressures,
+    // those of the wind, in units of 0.01 kPa
+    pub pressures: Pressures,
 }
 
 pub fn uniform_load_of(pane: Pane) -> UniformLoad
@@ -42,7 +42,7 @@ pub fn uniform_load_of(pane: Pane) -> UniformLoad
         square: b * b,
         most: max_row(pane.angle),
         least: min_row(pane.angle),
-        wind: pressures,
+        pressures,
     }
 }
 

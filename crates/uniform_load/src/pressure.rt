@@ -14,11 +14,11 @@ pub fn design_pressure(load: UniformLoad, glass: Glass) -> u32
     requires { ⌜ UniformValues load × GlassValues glass ⌝ }
     ensures { λ r. ⌜ r ≡ pressureOn load glass ⌝ }
 {
-    let wind = load.wind;
-    let downward = max_dead_load(load.most, glass) + wind.down;
+    let pressures = load.pressures;
+    let downward = max_dead_load(load.most, glass) + pressures.down;
     let held = min_dead_load(load.least, glass);
-    if held + downward < wind.up {
-        wind.up - held
+    if held + downward < pressures.up {
+        pressures.up - held
     } else {
         downward
     }

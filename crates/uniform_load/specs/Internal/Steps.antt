@@ -17,11 +17,11 @@ uniformLoadOf p = record {
   square = spanOf p * spanOf p;
   most = maximumAt (p .angle);
   least = minimumAt (p .angle);
-  wind = pressuresOf (p .wind);
+  pressures = pressuresOf (p .wind);
 }
 
 abbrev pub pressureOn : UniformLoad → Glass → ℕ
-pressureOn load g = governing (maxDeadLoad (load .most) g) (minDeadLoad (load .least) g) (load .wind)
+pressureOn load g = governing (maxDeadLoad (load .most) g) (minDeadLoad (load .least) g) (load .pressures)
 
 abbrev pub overloaded : UniformLoad → Glass → Bool
 overloaded load g =
@@ -32,5 +32,5 @@ pub record UniformValues (load : UniformLoad) : Type 0 where
   pub square-high : load .square ≤ 25000000
   pub most-high : load .most ≤ 57
   pub least-high : load .least ≤ 57
-  pub down-high : load .wind .down ≤ 1000
-  pub up-high : load .wind .up ≤ 1000
+  pub down-high : load .pressures .down ≤ 1000
+  pub up-high : load .pressures .up ≤ 1000
