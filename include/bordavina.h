@@ -96,8 +96,8 @@ bordavina_verdict_result bordavina_verdict(const uint8_t *file, size_t file_leng
  * entries that are not 0. It is `wanted` exactly when some way exists to serve every pane.
  *
  * If it is, `group` is 0 and `short_group` is untouched. If it is not, the first `group` entries of `short_group` are ids of
- * panes, each once, that show why: the stocks of all glasses that pass for at least one of these panes, each glass counted
- * once, add up to less than `group`. Later entries are untouched.
+ * panes, from the lowest up and each once, that show why: the stocks of all glasses that pass for at least one of these
+ * panes, each glass counted once, add up to less than `group`. Later entries are untouched.
  *
  * Which passing glass a pane has, which panes are placed when not all can be, and which group is listed, may change from one
  * version to the next. A refusal leaves both lists untouched; each list needs an entry for every pane, or the call is refused
@@ -108,8 +108,8 @@ bordavina_place_result bordavina_place(const uint8_t *file, size_t file_length,
 
 /* Writes what the program canopy prints of a file to the front of `text`, and returns how many bytes that is: a line for each
  * pane (its id, the id of its glass or 0), a line with placed and wanted and, where they differ, a line `short` with the ids
- * of the group; or the line `refused`, number, offset. The text is never cut. No 0 is put behind it; later bytes are
- * untouched. */
+ * of the group, from the lowest up; or the line `refused`, number, offset. The text is never cut. No 0 is put behind it; later
+ * bytes are untouched. */
 size_t bordavina_report(const uint8_t *file, size_t file_length, uint8_t text[BORDAVINA_TEXT_SIZE]);
 
 #ifdef __cplusplus

@@ -4,9 +4,11 @@
 --     has-and, has-or     the bits that both of two words have; that one of them has
 --     has-minus           the bits of a word that another has not
 --     has-one             the word of one bit
+--     has-shifted         the bits of a word that was shifted to the right
+--     none-above          no bit is set past a word's size
 --     first-has           the digit above the trailing zeros is a bit of a word that is not 0
 --     none-below          no digit among the trailing zeros is a bit
-use Prim.Native.Nat.{ℕ, zero, suc, _-_, _*_, _/_, _%_, _^_, _<_}
+use Prim.Native.Nat.{ℕ, zero, suc, _+_, _-_, _*_, _/_, _%_, _^_, _≤_, _<_}
 use mathlib.Core.Path.{_≡_, refl, ap, sym, _∙_}
 use mathlib.Core.Bool.{Bool, true, false, not, _&&_, _||_}
 use native.Mathlib.Nat.{zero-div, div-one, pow-suc}
@@ -81,6 +83,16 @@ has-power (suc k) (suc i) = rw (has-next, shifted-half 1 k, eqb·suc-suc i k) (h
 
 pub has-one : (k i : ℕ) → k < 64 → has (1 * 2 ^ k % 2 ^ 64) i ≡ eqb i k
 has-one k i l = rw (shl-exact {a = 1} 1 k 64 (omega arith) (omega arith)) (has-power k i)
+
+pub has-shifted : (word k i : ℕ) → has (word / 2 ^ k) i ≡ has word (k + i)
+unfolding has
+has-shifted word k i = rw (shr-shr word k i)
+
+pub none-above : (k word i : ℕ) → word < 2 ^ k → k ≤ i → has word i ≡ false
+none-above zero word i l above = let none : word ≡ 0 = omega arith in rw none (has-none i)
+none-above (suc k) word zero l above = absurd (omega arith)
+none-above (suc k) word (suc i) l above =
+    has-next word i ∙ none-above k (word / 2) i (omega (arith, pow-suc 2 k)) (omega arith)
 
 pub first-has : (k word : ℕ) → (word ≡ 0 → ⊥) → word < 2 ^ k → (trailingZeros k word < k) × (has word (trailingZeros k word) ≡ true)
 unfolding trailingZeros

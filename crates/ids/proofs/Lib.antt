@@ -4,3 +4,8 @@ pub mod Distinct
 -- The place of an id in a list, and sets of ids.
 pub mod Lookups
 pub mod IdSets
+-- Ids listed in order.
+pub mod Listing
+pub mod Rising
+pub mod Words
+pub mod Listed
