@@ -1,14 +1,16 @@
--- Which ids stand among the first of a list.
+-- Which ids stand in a list, and among the first of it.
 --     among-append   among two lists: among the one or the other
 --     among-found    one of the first: among them
+--     among-all      what holds of each entry holds of every id that stands in the list
 use Prim.Native.Nat.{ℕ, zero, suc, _≤_, _<_}
-use mathlib.Core.Path.{_≡_, refl, ap, sym, _∙_}
-use mathlib.Core.Bool.{Bool, true, _||_, or-assoc, or-true}
+use mathlib.Core.Path.{_≡_, refl, ap, sym, subst, _∙_}
+use mathlib.Core.Bool.{Bool, true, false, _||_, or-assoc, or-true}
 use mathlib.Core.List.{List, [], _∷_, _++_}
 use native.Mathlib.Omega.{arith}
 use lib.Dec.{eqb}
 use lib.ListN.{length, getD, take}
-use borrow.Author.Tests.{eq-eqb}
+use borrow.Author.Tests.{eqb-true, eq-eqb}
+use Rattle.basics.proofs.Tests.{differ}
 use Rattle.ids.specs.Ids.{among}
 
 pub among-append : (n : ℕ) (xs ys : List ℕ) → among n (xs ++ ys) ≡ among n xs || among n ys
@@ -25,3 +27,13 @@ among-found n (x ∷ xs) i zero h l e = absurd (omega arith)
 among-found n (x ∷ xs) zero (suc count) h l e = rw (eq-eqb x n e)
 among-found n (x ∷ xs) (suc i) (suc count) h l e =
     rw (among-found n xs i count (omega arith) (omega arith) e) (or-true (eqb x n))
+
+pub among-all :
+    (P : ℕ → Type 0) (xs : List ℕ) → ((k : ℕ) → k < length xs → P (getD xs k 0)) → (n : ℕ) → among n xs ≡ true → P n
+unfolding among
+among-all P [] each n e = differ e refl
+among-all P (x ∷ xs) each n e = go (eqb x n) refl e (among-all P xs (λ k l. each (suc k) (omega arith)) n)
+  where
+    go : (b : Bool) → eqb x n ≡ b → (b || among n xs) ≡ true → (among n xs ≡ true → P n) → P n
+    go true is e later = subst P (eqb-true x n is) (each 0 (omega arith))
+    go false is e later = later e

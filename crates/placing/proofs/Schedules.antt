@@ -17,7 +17,7 @@ use Rattle.job_file.specs.Entries.{glassIdsOf, paneIdsOf, stocksOf}
 use Rattle.job_file.specs.Rules.{Rules}
 use Rattle.job_file.specs.declared.job.Job.{Job}
 use Rattle.job_file.specs.declared.job.JobNumbers.{JobNumbers}
-use Rattle.job_file.proofs.Laws.{glass-values, glass-ids, pane-ids, few-panes, as-many-panes, pane-ids-lent}
+use Rattle.job_file.proofs.Laws.{glass-values, pane-values, glass-ids, pane-ids, few-panes, as-many-panes, pane-ids-lent}
 use Rattle.row_placing.specs.Internal.Stated.{Known, Stated}
 use Rattle.placing.specs.FileSchedule.{scheduleOf}
 use Rattle.placing.specs.Internal.Steps.{JobRows}
@@ -33,6 +33,7 @@ module _ {glasses : List Glass} {panes : List Pane} (rules : Rules glasses panes
   known-file sheets = record {
     few = rw length-map (rules .of-glasses .at-most);
     id-low = λ g l. rw (glass-id-at g) (glass-values rules g (rw length-map at l) .id-low);
+    id-high = λ p l. rw (pane-id-at p) (pane-values rules p (rw length-map at l) .id-high);
     glasses-differ = λ i j l k e. glass-ids rules i j l (rw length-map at k) (sym (glass-id-at i) ∙ e ∙ glass-id-at j);
     panes-differ = λ i j l k e. pane-ids rules i j l (rw length-map at k) (sym (pane-id-at i) ∙ e ∙ pane-id-at j);
   }

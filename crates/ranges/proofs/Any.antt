@@ -1,6 +1,7 @@
 -- Tests of some number below a bound.
 --     Passed, any-found    where some number passes, one can be named
 --     any-of               where a number passes, some number does
+--     any-same             two tests that agree
 use Prim.Native.Nat.{ℕ, zero, suc, _<_}
 use mathlib.Core.Path.{_≡_, refl, ap, sym, _∙_}
 use mathlib.Core.Logic.{_⊎_, inl, inr}
@@ -34,3 +35,8 @@ any-of test (suc n) i l e = go (last-or-below i n l) (λ k. any-of test n i k e)
     go : (i ≡ n) ⊎ (i < n) → (i < n → anyTo test n ≡ true) → (anyTo test n || test n) ≡ true
     go (inl same) later = rw (ap test (sym same) ∙ e) (or-true (anyTo test n))
     go (inr k) later = rw (later k)
+
+pub any-same : (test other : ℕ → Bool) (n : ℕ) → ((i : ℕ) → i < n → test i ≡ other i) → anyTo test n ≡ anyTo other n
+unfolding anyTo
+any-same test other zero h = refl
+any-same test other (suc n) h = rw (h n (omega arith), any-same test other n (λ i l. h i (omega arith)))

@@ -11,7 +11,9 @@ use lib.Dec.{eqb}
 use lib.ListN.{length, getD, List·getD-eq-default}
 use borrow.Author.Tests.{eq-eqb, ne-eqb}
 use Rattle.basics.specs.Choice.{if_then_else_}
-use Rattle.ranges.proofs.Counts.{count-le}
+use Rattle.ids.specs.Ids.{among, Rises}
+use Rattle.ids.specs.Internal.Listing.{rising, Listed}
+use Rattle.ids.proofs.Rising.{numbers-rise}
 use Rattle.glass_set.specs.Internal.Member.{has}
 use Rattle.matching.specs.Internal.Matching.{Greatest}
 use Rattle.matching.specs.Internal.Rows.{taskOf, wayOf}
@@ -25,15 +27,16 @@ use Rattle.row_placing.specs.Internal.Stated.{Stated}
 use Rattle.basics.specs.Lent.{Lent, Wrote}
 use Rattle.basics.specs.Internal.Arrays.{written}
 use Rattle.row_placing.specs.Internal.Promise.{RowsGlazed}
-use Rattle.row_placing.specs.Internal.Steps.{confinedTo, Answered, confinedIds, groupDue, Grouped}
+use Rattle.row_placing.specs.Internal.Steps.{Answered, confinedIds, groupDue}
 use Rattle.row_placing.specs.declared.PlaceCounts.{PlaceCounts}
 use Rattle.row_placing.proofs.Entries.{entries-long, entries-same}
 use Rattle.row_placing.proofs.Ids.{nonzero-le}
 use Rattle.basics.proofs.Lent.{wrote}
 use Rattle.row_placing.proofs.Bridge.{each-held, is-placing, none-spare}
 use Rattle.row_placing.proofs.Others.{full-placed}
-use Rattle.row_placing.proofs.Groups.{group-length}
 use Rattle.row_placing.proofs.Shortage.{short-group}
+use Rattle.row_placing.proofs.Risen.{risen-short}
+use Rattle.row_placing.proofs.Writes.{group-few}
 
 module _
     (rows sheets64 glassIds paneIds held : List ℕ)
@@ -80,8 +83,8 @@ module _
 
       glazing :
           (listed : List ℕ) → (placed ≡ length rows → listed ≡ []) → ((placed ≡ length rows → ⊥) → ShortGroup s listed) →
-          Glazing s (entriesAt (s .glass-ids) held) listed placed
-      glazing listed equal less = record {
+          Rises listed → Glazing s (entriesAt (s .glass-ids) held) listed placed
+      glazing listed equal less up = record {
         placing = is-placing b held tight as-many best;
         none-to-spare = none-spare b held tight as-many best;
         placed-is = placed-is;
@@ -95,6 +98,7 @@ module _
         all-placeable = λ full. placed-is ∙ full-placed b held tight as-many best full;
         if-equal = λ e. equal (e ∙ sym (b .a-row-each));
         if-less = λ left. less (λ e. left (e ∙ b .a-row-each));
+        rises = up;
       }
 
       holding : Holding s held (entriesAt (s .glass-ids) held)
@@ -107,25 +111,28 @@ module _
     due-none : placed ≡ length rows → due ≡ []
     due-none all = rw (eq-eqb placed (length rows) all)
 
-    due-group : (placed ≡ length rows → ⊥) → due ≡ confinedIds paneIds rows tight
+    due-group : (placed ≡ length rows → ⊥) → due ≡ rising (confinedIds paneIds rows tight)
     due-group left = rw (ne-eqb placed (length rows) left)
 
     due-few : length due ≤ length rows
     due-few = go (eqb placed (length rows))
       where
-        go : (all : Bool) → length (if all then [] else confinedIds paneIds rows tight) ≤ length rows
+        go : (all : Bool) → length (if all then [] else rising (confinedIds paneIds rows tight)) ≤ length rows
         go true = omega arith
-        go false =
-            omega (
-              arith,
-              group-length paneIds (confinedTo rows tight) (length rows),
-              count-le (confinedTo rows tight) (length rows),
-            )
+        go false = group-few paneIds rows tight
+
+    due-rises : Rises due
+    due-rises = go (eqb placed (length rows))
+      where
+        go : (all : Bool) → Rises (if all then [] else rising (confinedIds paneIds rows tight))
+        go true = λ k l. absurd (omega arith)
+        go false = numbers-rise (λ id. among id (confinedIds paneIds rows tight)) 10000
 
     due-short : (s : Schedule) → Stated s rows sheets64 glassIds paneIds → (placed ≡ length rows → ⊥) → ShortGroup s due
     due-short s b left =
         rw (due-group left)
-        (short-group b held tight (as-many s b) best (λ e. left (placed-is s b ∙ e ∙ sym (b .a-row-each))))
+        (risen-short (b .known) (confinedIds paneIds rows tight)
+        (short-group b held tight (as-many s b) best (λ e. left (placed-is s b ∙ e ∙ sym (b .a-row-each)))))
 
     -- The promise is kept if that is what was written.
     kept :
@@ -138,7 +145,7 @@ module _
             glazed = record {
               ids = entriesAt (s .glass-ids) held;
               group-ids = due;
-              glazing = glazing s b due due-none (due-short s b);
+              glazing = glazing s b due due-none (due-short s b) due-rises;
               wanted-is = b .a-row-each;
               group-is = refl;
               answers-written = subst (λ (ids : List ℕ). Wrote ids answers) (same-ids s b) answers-are;
@@ -164,7 +171,7 @@ module _
         rw (ap length (due-none all)) at (kept (rw (due-none all) same))
 
     pub rows-short :
-        (count : ℕ) → (placed ≡ length rows → ⊥) → Grouped paneIds rows tight group count →
+        (count : ℕ) → (placed ≡ length rows → ⊥) → Listed (rising (confinedIds paneIds rows tight)) group count →
         RowsGlazed rows sheets64 glassIds paneIds held (counted count) answers group
     rows-short count left g =
-        rw (g .count-is ∙ ap length (sym (due-group left))) (kept (rw (due-group left) (g .group-is)))
+        rw (g .count-is ∙ ap length (sym (due-group left))) (kept (rw (due-group left) (g .entries-are)))

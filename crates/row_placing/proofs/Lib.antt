@@ -7,8 +7,8 @@ pub mod Numbers
 -- From what the search promises of numbers to what the promise says of ids.
 pub mod Bridge
 pub mod Others
-pub mod Groups
 pub mod Shortage
+pub mod Risen
 -- What the code writes, entry by entry.
 pub mod Writes
 -- The promise of `place_rows`, from what its parts leave.

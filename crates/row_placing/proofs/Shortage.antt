@@ -11,6 +11,7 @@ use lib.ListN.{length, getD}
 use Rattle.basics.specs.Choice.{if_then_else_}
 use Rattle.basics.proofs.Tests.{both-true}
 use Rattle.ids.specs.Ids.{among}
+use Rattle.ids.proofs.Listing.{OneOf, list-length, list-among, list-at, list-once}
 use Rattle.ranges.proofs.Any.{any-found}
 use Rattle.ranges.proofs.Sums.{sum-le, sum-wider}
 use Rattle.glass_set.specs.Internal.Member.{has, isWithin}
@@ -25,7 +26,6 @@ use Rattle.row_placing.specs.Internal.Stated.{Stated}
 use Rattle.row_placing.specs.Internal.Steps.{confinedTo, confinedIds}
 use Rattle.row_placing.proofs.Numbers.{same-pane}
 use Rattle.row_placing.proofs.Bridge.{bit-of-glass, placed-served, placed-le}
-use Rattle.row_placing.proofs.Groups.{InGroup, group-length, group-among, group-at, group-once}
 
 -- What a glass adds to the sheets: its own if it is counted.
 part-le : (a c : Bool) (x y : ℕ) → (a ≡ true → c ≡ true) → x ≡ y → (if a then x else 0) ≤ (if c then y else 0)
@@ -44,10 +44,10 @@ module _
       suits-tight j l suited =
           let f = any-found (λ p. among (getD (s .pane-ids) p 0) group && s .passes p j) (length (s .pane-ids)) suited in
           let both = both-true (among (getD (s .pane-ids) (f .number) 0) group) (s .passes (f .number) j) (f .passed) in
-          let m = group-among paneIds (confinedTo rows tight) (length rows) (getD (s .pane-ids) (f .number) 0) (both .0) in
-          let here : m .place < length (s .pane-ids) = omega (arith, m .below, b .a-row-each) in
-          let id = sym (b .pane-ids-are (m .place) here) ∙ m .is-id in
-          let same = same-pane (b .known) (m .place) (f .number) here (f .below) id in
+          let m = list-among (λ p. getD paneIds p 0) (confinedTo rows tight) (length rows) (getD (s .pane-ids) (f .number) 0) (both .0) in
+          let here : m .number < length (s .pane-ids) = omega (arith, m .below, b .a-row-each) in
+          let id = sym (b .pane-ids-are (m .number) here) ∙ m .is-id in
+          let same = same-pane (b .known) (m .number) (f .number) here (f .below) id in
           let row = getD rows (f .number) 0 in
           let all : isWithin row tight ≡ true = rw same at (m .passed) in
           within-at row tight all j (omega (arith, b .known .few)) (bit-of-glass b (f .number) j (f .below) l (both .1))
@@ -75,7 +75,7 @@ module _
             sheetsOf (taskOf rows sheets64) (has tight) < length (confinedIds paneIds rows tight)
         tight-short left =
             let most = placed-le b held tight long best in
-            rw (group-length paneIds (confinedTo rows tight) (length rows))
+            rw (list-length (λ p. getD paneIds p 0) (confinedTo rows tight) (length rows))
             (best .shortage (omega (arith, placed-served b held tight long best, b .a-row-each)))
 
         pub short-group :
@@ -83,8 +83,8 @@ module _
             ShortGroup s (confinedIds paneIds rows tight)
         short-group left = record {
           not-empty = omega (arith, tight-short left);
-          of-panes = λ k l. of-panes (group-at paneIds (confinedTo rows tight) (length rows) k l);
-          each-once = group-once paneIds (confinedTo rows tight) (length rows) one-pane;
+          of-panes = λ k l. of-panes (list-at (λ p. getD paneIds p 0) (confinedTo rows tight) (length rows) k l);
+          each-once = list-once (λ p. getD paneIds p 0) (confinedTo rows tight) (length rows) one-pane;
           short = omega (arith, tight-short left, sheets-fewer tight);
         }
           where
@@ -96,9 +96,9 @@ module _
                 same-pane (b .known) p q (omega (arith, b .a-row-each)) (omega (arith, b .a-row-each))
                 (sym (id-at p l) ∙ e ∙ id-at q k)
 
-            of-panes : {id : ℕ} → InGroup paneIds (confinedTo rows tight) (length rows) id → PaneId s id
+            of-panes : {id : ℕ} → OneOf (λ p. getD paneIds p 0) (confinedTo rows tight) (length rows) id → PaneId s id
             of-panes m = record {
-              place = m .place;
+              place = m .number;
               within = omega (arith, m .below, b .a-row-each);
-              is-id = sym (id-at (m .place) (m .below)) ∙ m .is-id;
+              is-id = sym (id-at (m .number) (m .below)) ∙ m .is-id;
             }

@@ -24,6 +24,10 @@ some-known :
 some-known {s} known places sheets each-once within = record {
   few = known .few;
   id-low = known .id-low;
+  id-high =
+      λ p l.
+      let here = below s places p l in
+      rw (entry-at (s .pane-ids) places p here) (known .id-high (getD places p 0) (within p here));
   glasses-differ = known .glasses-differ;
   panes-differ =
       λ i j l k same.

@@ -1,22 +1,23 @@
--- The ids that the code writes, one after the other.
+-- What the code writes: the answers, one after the other, and the group.
 --     answered-none, answered-next    the ids of the glasses held, of no pane and of one pane more
 --     answered-le                     no more panes are placed than are answered
---     grouped-in, grouped-out         the ids of the group, with the next pane and without
+--     group-few                       the group has at most an id for each pane
 use Prim.Native.Nat.{ℕ, _+_, _≤_, _<_}
 use mathlib.Core.Path.{_≡_, refl}
-use mathlib.Core.Bool.{Bool, true, false}
 use mathlib.Core.List.{List, [], _∷_, _++_}
-use native.Mathlib.Numerals.{add-one}
 use native.Mathlib.Omega.{arith}
 use lib.Dec.{eqb}
-use lib.ListN.{length, getD, set, take, length-append}
+use lib.ListN.{length, getD, set, take}
 use Rattle.basics.specs.Choice.{if_then_else_}
+use Rattle.ranges.proofs.Counts.{count-le}
+use Rattle.ids.specs.Internal.Listing.{rising}
+use Rattle.ids.proofs.Listing.{list-length}
+use Rattle.ids.proofs.Rising.{rising-few}
 use Rattle.row_placing.specs.Internal.Entries.{entriesAt}
 use Rattle.row_placing.specs.Placing.{nonzero}
 use Rattle.basics.specs.Lent.{lent}
-use Rattle.basics.specs.Internal.Arrays.{written}
-use Rattle.basics.proofs.Lent.{written-next, written-map, map-next, map-long}
-use Rattle.row_placing.specs.Internal.Steps.{groupTo, Answered}
+use Rattle.basics.proofs.Lent.{written-map, map-next, map-long}
+use Rattle.row_placing.specs.Internal.Steps.{Answered, confinedTo, confinedIds}
 use Rattle.row_placing.proofs.Ids.{nonzero-le}
 
 nonzero-last : (xs : List ℕ) (x : ℕ) → nonzero (xs ++ (x ∷ [])) ≡ nonzero xs + (if eqb x 0 then 0 else 1)
@@ -45,20 +46,11 @@ module _ (ids held before : List ℕ) (fits : length held ≤ length before) whe
       let given : List ℕ = entriesAt ids (take i held) in
       omega (arith, a .placed-is, nonzero-le given i (map-long (λ g. getD ids g 0) held i l))
 
-module _ (ids : List ℕ) (test : ℕ → Bool) (before : List ℕ) (n : ℕ) where
-  pub grouped-in :
-      (after : List ℕ) → test n ≡ true → length (groupTo ids test n) < length before →
-      after ≡ written (groupTo ids test n) before →
-      (set after (length (groupTo ids test n)) (getD ids n 0) ≡ written (groupTo ids test (n + 1)) before)
-      × (length (groupTo ids test (n + 1)) ≡ length (groupTo ids test n) + 1)
-  unfolding groupTo
-  grouped-in after passed fits is =
-      let next : groupTo ids test (n + 1) ≡ groupTo ids test n ++ (getD ids n 0 ∷ []) =
-      rw (add-one, groupTo, passed) in (
-        rw (is, next) (written-next (groupTo ids test n) before (getD ids n 0) fits),
-        rw (next, length-append),
-      )
-
-  pub grouped-out : test n ≡ false → groupTo ids test (n + 1) ≡ groupTo ids test n
-  unfolding groupTo
-  grouped-out failed = rw (add-one, groupTo, failed)
+pub group-few : (ids rows : List ℕ) (tight : ℕ) → length (rising (confinedIds ids rows tight)) ≤ length rows
+group-few ids rows tight =
+    omega (
+      arith,
+      rising-few (confinedIds ids rows tight),
+      list-length (λ p. getD ids p 0) (confinedTo rows tight) (length rows),
+      count-le (confinedTo rows tight) (length rows),
+    )

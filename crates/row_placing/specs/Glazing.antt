@@ -1,9 +1,11 @@
 -- Document 01, "The placing", and demands 2 and 3: what the placing is to give. The number placed is that of all panes exactly where some
--- placing leaves none without a glass; where it is not, there is a short group. How the lent lists are written is `Glazed`.
+-- placing leaves none without a glass; where it is not, there is a short group, listed from its lowest id up (document 02, 2026-04).
+-- How the lent lists are written is `Glazed`.
 use Prim.Native.Nat.{ℕ}
 use mathlib.Core.Path.{_≡_}
 use mathlib.Core.List.{List, []}
 use lib.ListN.{length}
+use Rattle.ids.specs.Ids.{Rises}
 use Rattle.row_placing.specs.Schedule.{Schedule}
 use Rattle.row_placing.specs.Placing.{nonzero, Placing, NoneToSpare, FullPlacing}
 use Rattle.row_placing.specs.ShortGroup.{ShortGroup}
@@ -19,3 +21,5 @@ pub record Glazing (s : Schedule) (ids group : List ℕ) (placed : ℕ) : Type 0
   -- the group is empty where all are placed, and else short
   pub if-equal : placed ≡ length (s .pane-ids) → group ≡ []
   pub if-less : (placed ≡ length (s .pane-ids) → ⊥) → ShortGroup s group
+  -- request 2026-04: each id of the group is below the next
+  pub rises : Rises group

@@ -15,10 +15,12 @@ RowOf s p row = Members row (λ g. ltb g (length (s .glass-ids)) && s .passes p 
 abbrev pub RowsOf : Schedule → List ℕ → Type 0
 RowsOf s rows = (p : ℕ) → p < length (s .pane-ids) → RowOf s p (getD rows p 0)
 
--- What the placing asks of a schedule: at most 64 glasses, no glass with the id 0, no two glasses or panes with one id.
+-- What the placing asks of a schedule: at most 64 glasses, no glass with the id 0, no pane with an id above 9999, no two glasses or
+-- panes with one id.
 pub record Known (s : Schedule) : Type 0 where
   pub few : length (s .glass-ids) ≤ 64
   pub id-low : (g : ℕ) → g < length (s .glass-ids) → 1 ≤ getD (s .glass-ids) g 0
+  pub id-high : (p : ℕ) → p < length (s .pane-ids) → getD (s .pane-ids) p 0 ≤ 9999
   pub glasses-differ : (i j : ℕ) → i < j → j < length (s .glass-ids) → getD (s .glass-ids) i 0 ≡ getD (s .glass-ids) j 0 → ⊥
   pub panes-differ : (i j : ℕ) → i < j → j < length (s .pane-ids) → getD (s .pane-ids) i 0 ≡ getD (s .pane-ids) j 0 → ⊥
 
