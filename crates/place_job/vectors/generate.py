@@ -1,10 +1,10 @@
 """Writes the vectors of place_job: the job files in data/, their names in args and what is due of each in stdout.
 
 Run `python3 generate.py`. Each job is made so that a full placing of it exists, or a short group, and that is stated here from
-document 01 and document 02, 2026-01 to 2026-03. Nothing is written where placing.py, which finds the one or the other by the
+document 01 and document 02, 2026-01 to 2026-04. Nothing is written where placing.py, which finds the one or the other by the
 verdicts of judge_job's clauses.py, says otherwise, or where reader.py of check_job's vectors reads a file otherwise. Ribbons
 are panes with four edges that are more than three times as long as wide, along w or along h. House panes have a wind class and
-a zone.
+a zone. Where a job has only one short group, and that is stated here, the line that is due of it stands in the job's notes.
 """
 import pathlib
 import random
@@ -63,22 +63,34 @@ def rows_of(glasses, panes):
     return [[place for place, sheet in enumerate(glasses) if not clauses.verdict(it, sheet)] for it in panes]
 
 
-def hold(name, due, glasses, panes, chain=None):
+def hold(name, due, glasses, panes, chain=None, group=None):
     """Compares what is stated of a job with what placing.py finds: full or short; and, if it is stated, how many links the
-    shortest chain has that gives a sheet to the first pane that first fit leaves with none."""
+    shortest chain has that gives a sheet to the first pane that first fit leaves with none, and the places in the file of the
+    only short group."""
     rack, roof = [it.stock for it in glasses], rows_of(glasses, panes)
     if placing.decide(rack, roof) != due:
         raise SystemExit(f"{name}: stated {due}, but placing.py finds it {placing.decide(rack, roof)}")
     if chain is not None and placing.links(rack, roof) != chain:
         raise SystemExit(f"{name}: stated {chain} links, but placing.py has {placing.links(rack, roof)}")
+    if group is not None and not placing.is_only_short_group(rack, roof, group):
+        raise SystemExit(f"{name}: not the only short group by placing.py")
 
 
-def job(name, due, glasses, panes, glass_ids=None, pane_ids=None, chain=None):
-    """A job of which this is due. The ids are those from 501 and from 1 on, unless others are given."""
-    hold(name, due, glasses, panes, chain)
+def places_of(name, group, pane_ids):
+    """The places in the file of a group with these ids, which are to rise (document 02, 2026-04)."""
+    if list(group) != sorted(set(group) & set(pane_ids)):
+        raise SystemExit(f"{name}: the ids of the group do not rise, or not all are of panes")
+    return [place for place, id in enumerate(pane_ids) if id in group]
+
+
+def job(name, due, glasses, panes, glass_ids=None, pane_ids=None, chain=None, group=None):
+    """A job of which this is due. The ids are those from 501 and from 1 on, unless others are given. `group` has the ids of the
+    only short group, if that is stated, as they are to be listed."""
     glass_ids = glass_ids or range(501, 501 + len(glasses))
     pane_ids = pane_ids or range(1, 1 + len(panes))
-    file = file_of(name + "\n", lines(glass_ids, glasses), lines(pane_ids, panes))
+    hold(name, due, glasses, panes, chain, group and places_of(name, group, pane_ids))
+    notes = f"{name}\n" + (f"short {' '.join(map(str, group))}\n" if group else "")
+    file = file_of(notes, lines(glass_ids, glasses), lines(pane_ids, panes))
     put(name, due, f"accepted {len(glasses)} {len(panes)}", file)
 
 
@@ -626,6 +638,154 @@ def house_roofs():
         houses(name, due, glasses, panes, misreadings, **random_ids(dice, glass_count, pane_count))
 
 
+# From here on, the ids of short groups matter (document 02, 2026-04). Most of these jobs have only one short group.
+
+
+def all_short(name, pane_ids, panes=None):
+    """A job with one glass for all panes and one sheet too few: every smaller group has sheets enough."""
+    panes = panes or [pane(w=200 + n, h=400) for n in range(len(pane_ids))]
+    job(name, "short", [glass(len(panes) - 1)], panes, pane_ids=pane_ids, group=sorted(pane_ids))
+
+
+def broken_chain(count, each=1):
+    """Stocks and runs of a chain with so many of each pane, and one sheet too few at its end. Without any one pane the others
+    can move over, so every short group has all panes."""
+    intervals = [(at, at + 1) for at in range(count - 1)] + [(0, 0)]
+    return [each] * (count - 1) + [each - 1], [interval for interval in intervals for _ in range(each)]
+
+
+def group_orders():
+    """Groups of all panes whose ids have another order than their lines, or than a search that begins with the last pane."""
+    all_short("group-ids-fall", (9000, 721, 300, 65, 17, 2))
+    all_short("group-ids-1-and-9999", (9999, 1))
+    # one round of exchanges between neighbours does not bring it to the front
+    all_short("group-lowest-id-last", (20, 30, 40, 50, 60, 70, 10))
+    # in order as texts, and by their low bytes
+    all_short("group-ids-as-text", (1, 10, 100, 1000, 2, 23, 230, 9, 99, 999, 9999))
+    all_short("group-ids-by-low-byte", (256, 512, 1, 257, 513, 255, 511, 767))
+    # from the last pane, whose id is the highest, the search goes on by rising ids, or by no order
+    stocks, intervals = broken_chain(8)
+    rising = (3, 8, 90, 91, 400, 1234, 5678, 9876)
+    runs("group-ids-rise-along-a-chain", "short", stocks, intervals, pane_ids=rising, group=rising)
+    shuffled = (400, 3, 5678, 90, 1234, 91, 8, 9876)
+    runs("group-ids-mixed-along-a-chain", "short", stocks, intervals, (5, 2, 7, 0, 3, 6, 1, 4), pane_ids=shuffled, group=rising)
+
+
+def group_blocks():
+    """Groups of all panes with ids around the borders of blocks of 64, which a set of bits may have. The first block may begin
+    with 0 or with 1."""
+    all_short("group-block-borders-fall", (9999, 9985, 9984, 9983, 129, 128, 127, 65, 64, 63, 1))
+    all_short("group-block-borders-mixed", (64, 9999, 63, 128, 9984, 1, 127, 9985, 65, 9983, 129))
+    # a whole block and the ids beside it; the last ids; an id of each of the 157 blocks, in steps of 50 blocks
+    all_short("group-block-whole", range(129, 62, -1))
+    all_short("group-block-last", random.Random(4).sample(range(9975, 10000), 25))
+    blocks = [50 * step % 157 for step in range(157)]
+    all_short("group-of-each-block", [64 * block + (23 * block + 7) % 64 for block in blocks])
+
+
+def groups_of_one():
+    """A pane that no glass passes for is a group by itself. The others have a sheet more than they need, and so are in none."""
+    none, others, ids = pane(w=3000, h=3000), [pane(w=300 + n) for n in range(4)], [5000, 64, 9998, 2]
+    for id in 1, 7, 9999:
+        for where, place in ("first", 0), ("middle", 2), ("last", 4):
+            panes, pane_ids = others[:place] + [none] + others[place:], ids[:place] + [id] + ids[place:]
+            job(f"group-of-one-id-{id}-{where}", "short", [glass(5)], panes, pane_ids=pane_ids, group=[id])
+
+
+def ids_to_both_ends(dice, count):
+    """So many ids in no order, the lowest and the highest among them."""
+    return dice.sample([1, 9999, *dice.sample(range(2, 9999), count - 2)], count)
+
+
+def groups_of_256():
+    """Groups of all panes of the largest roof: 256 panes on 255 sheets, of which every smaller group has enough."""
+    spread = range(54, 10000, 39)
+    runs("group-of-256-ids-rise", "short", *broken_chain(8, 32), pane_ids=spread, group=spread)
+    all_short("group-of-256-ids-fall", spread[::-1])
+    all_short("group-of-256-ids-256-to-1", range(256, 0, -1))
+    # 64 glasses, and 32 panes for each eight of them and the next, if there is one: n neighbouring runs of these eight have at
+    # least 32 n sheets, but all have 255
+    dice = random.Random(256)
+    intervals = dice.sample([(at, min(at + 8, 63)) for at in range(0, 64, 8)] * 32, 256)
+    order, pane_ids = dice.sample(range(64), 64), ids_to_both_ends(dice, 256)
+    runs("group-of-256-ids-shuffled", "short", [3] + [4] * 63, intervals, order, pane_ids=pane_ids, group=sorted(pane_ids))
+    # no job has a longer text: every id has four digits, and all panes but one have a glass
+    panes, pane_ids = [pane(w=200 + n, h=400) for n in range(256)], dice.sample(range(1000, 10000), 256)
+    rack = [glass(200), glass(55)]
+    job("group-of-256-longest-text", "short", rack, panes, (9999, 1000), pane_ids, group=sorted(pane_ids))
+
+
+def groups_between():
+    """Groups of some of the panes, whose ids lie between those of the others. The others have a sheet to spare among glasses
+    that pass for none of the group, and so are in no short group; some would also do with sheets of the group."""
+    roof = [
+        (80, 2, 3), (71, 1, 2), (20, 0, 1), (11, 1, 2), (111, 1, 1), (60, 2, 3), (31, 2, 2), (120, 0, 0), (91, 1, 2), (40, 3, 3),
+        (51, 1, 2), (100, 0, 1),
+    ]
+    ids, intervals = [id for id, *_ in roof], [interval for _, *interval in roof]
+    runs("group-between", "short", [4, 3, 2, 4], intervals, (2, 1, 3, 0), pane_ids=ids, group=[11, 31, 51, 71, 91, 111])
+    # the ids of the group are the places of others in the file, and its places are ids of others
+    ids, intervals = (7, 1, 8, 2, 3, 6, 4, 5), [(at, at) for at in (0, 1, 1, 0, 1, 1, 1, 0)]
+    runs("group-ids-as-places", "short", [2, 6], intervals, glass_ids=(2, 1), pane_ids=ids, group=[2, 5, 7])
+    # every other one of 256 ids
+    spread, dice = range(54, 10000, 39), random.Random(128)
+    kinds = [(0, 1), (2, 3), (0, 0), (1, 2), (1, 1), (3, 3), (0, 1), (2, 2)]
+    roof = dice.sample([(id, kinds[place % 8]) for place, id in enumerate(spread)], 256)
+    ids, intervals = [id for id, _ in roof], [interval for _, interval in roof]
+    runs("group-of-every-other-id", "short", [60, 67, 65, 64], intervals, pane_ids=ids, group=spread[::2])
+
+
+def group_letters():
+    """Groups with house panes. The winds of the second are those of house_yields: the group may have the first glass alone."""
+    panes = [pane(w=300 + n) if n % 3 else house(w=300 + n, wind=n + 1, zone=2) for n in range(10)]
+    all_short("group-of-both-letters", (9990, 8080, 4097, 4096, 640, 639, 129, 50, 9, 8), panes)
+    c4, as_strong = house(wind=10, zone=2), pane(up=998)
+    roof = [
+        (95, house()), (80, c4), (11, pane()), (40, as_strong), (60, house()), (20, c4), (33, pane()), (64, as_strong),
+        (50, house()), (70, c4),
+    ]
+    rack, ids, panes = [glass(4, four=6271), glass(6, four=6270)], [id for id, _ in roof], [it for _, it in roof]
+    job("group-of-strong-winds", "short", rack, panes, pane_ids=ids, group=[20, 40, 64, 70, 80])
+
+
+def two_groups():
+    """Two roofs that are short of a sheet each, with panes of one between those of the other, and panes that have two sheets
+    more than they need. A short group has all panes of one roof or of the other, and no pane besides theirs."""
+    stocks = [2, 3, 5]
+    roof = [(70, 0), (90, 1), (30, 2), (10, 0), (20, 1), (100, 2), (60, 1), (40, 0), (80, 2), (50, 1)]
+    one, other = ({place for place, (_, at) in enumerate(roof) if at == which} for which in (0, 1))
+    for group in map(set, placing.short_groups(stocks, [[at] for _, at in roof])):
+        if not (group >= one or group >= other) or not group <= one | other:
+            raise SystemExit(f"two-groups: {group} is short too")
+    runs("two-groups", "short", stocks, [(at, at) for _, at in roof], pane_ids=[id for id, _ in roof])
+
+
+def largest_group():
+    """64 glasses and 256 panes, of which half are the only short group: they have the sheets at 16 to 47, as all panes of
+    group-of-256-ids-shuffled have theirs. The others have five more sheets for every four panes, and some of them may have
+    sheets of the group."""
+    dice = random.Random(9999)
+    stocks = [5] * 16 + [3] + [4] * 31 + [5] * 16
+    inside = [(16, 24), (24, 32), (32, 40), (40, 47)] * 32
+    outside = [(0, 8), (8, 16), (47, 55), (55, 63)] * 32
+    group = ids_to_both_ends(dice, 128)
+    others = dice.sample(sorted(set(range(1, 10000)) - set(group)), 128)
+    roof = dice.sample([*zip(inside, group, strict=True), *zip(outside, others, strict=True)], 256)
+    intervals, pane_ids = [interval for interval, _ in roof], [id for _, id in roof]
+    order, glass_ids = dice.sample(range(64), 64), dice.sample(range(1, 10000), 64)
+    runs("group-of-half-the-largest", "short", stocks, intervals, order, glass_ids=glass_ids, pane_ids=pane_ids,
+         group=sorted(group))
+
+
+def other_groups():
+    """Roofs with falling ids that have no short group, or many: every group of three panes or more, and every group."""
+    falling = (9999, 9998, 4000, 129, 128, 100, 2, 1)
+    intervals = [(at, at + 1) for at in range(7)] + [(0, 0)]
+    runs("ids-fall-full", "full", [1] * 8, intervals, pane_ids=falling, chain=8)
+    job("ids-fall-short-of-6", "short", [glass(1), glass(0), glass(1)], [pane()] * 8, pane_ids=falling)
+    job("ids-fall-no-glasses", "short", [], [pane()] * 8, pane_ids=falling)
+
+
 def write():
     shutil.rmtree(CRATE / "data", ignore_errors=True)
     (CRATE / "data").mkdir()
@@ -641,7 +801,8 @@ def write():
 for group in (
     paper_jobs, chains, first_fits, shortages, clauses_alone, empty_parts, largest, random_runs, random_roofs, ids, refused_files,
     ribbon_yields, ribbon_chains, ribbon_columns, ribbon_constants, cover_shortages, cover_yields, cover_roofs, every_class,
-    house_chains, house_classes, house_zones, house_yields, house_shapes, most_houses, house_roofs,
+    house_chains, house_classes, house_zones, house_yields, house_shapes, most_houses, house_roofs, group_orders, group_blocks,
+    groups_of_one, groups_of_256, groups_between, group_letters, two_groups, largest_group, other_groups,
 ):
     group()
 write()

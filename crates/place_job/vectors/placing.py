@@ -1,7 +1,9 @@
 """A second placing, written from document 01, "The placing", alone: whether a full placing exists, with what shows it.
 
-A rack is a list of stocks, and a roof a list of rows: for each pane the places of the glasses that pass for it.
+A rack is a list of stocks, and a roof a list of rows: for each pane the places of the glasses that pass for it. A group is a
+list of places of panes.
 """
+import itertools
 
 
 def first_fit(rack, roof):
@@ -61,3 +63,24 @@ def links(rack, roof):
     """The length of the shortest chain for the first pane that first fit leaves with none."""
     given = first_fit(rack, roof)
     return len(shortest_chain(rack, roof, given, given.index(None))[0])
+
+
+def short_groups(rack, roof):
+    """Every short group there is, found by trying all groups."""
+    counts = range(1, len(roof) + 1)
+    groups = itertools.chain.from_iterable(itertools.combinations(range(len(roof)), count) for count in counts)
+    return [list(group) for group in groups if is_short_group(rack, roof, group)]
+
+
+def is_only_short_group(rack, roof, group):
+    """Whether this is a short group, and there is no other. If the roof is full without a pane, every short group has that pane;
+    so the roof is tried without each pane of the group. If it is full with a second pane like some other in place of the
+    group's first, no short group has that other one: it would have the first too, and stay short by the exchange, which brings
+    in no glass. Panes with equal rows are tried once. Where there are few panes, all groups are tried as well."""
+    rest = roof[:group[0]] + roof[group[0] + 1:]
+    in_group = {tuple(roof[pane]): pane for pane in group}
+    others = {tuple(row) for pane, row in enumerate(roof) if pane not in group}
+    return (is_short_group(rack, roof, group)
+            and all(decide(rack, roof[:pane] + roof[pane + 1:]) == "full" for pane in in_group.values())
+            and all(decide(rack, rest + [row]) == "full" for row in others)
+            and (len(roof) > 12 or short_groups(rack, roof) == [group]))
