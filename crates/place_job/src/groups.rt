@@ -1,5 +1,6 @@
 // The rules on the group. Where all panes are placed, its count is 0 and its list unchanged. Else its entries are the ids of a
 // short group: the stocks of all glasses that pass for one of its panes or more, each glass once, add up to less than its panes.
+// The ids rise.
 use crate::job::Job;
 use crate::lists::LONGEST;
 use crate::lists::is_same_from;
@@ -49,6 +50,9 @@ pub(crate) fn check_short_group(
     if !is_short(passes, stocks, is_in, count) {
         return Outcome::Wrong(Rule::GroupSheets);
     }
+    if !is_rising(count, group) {
+        return Outcome::Wrong(Rule::GroupOrder);
+    }
     if !is_same_from(count, before, group) {
         return Outcome::Wrong(Rule::LaterEntries);
     }
@@ -91,6 +95,18 @@ fn is_short(passes: [bool; 16384], stocks: [u32; 64], is_in: [bool; 256], count:
             }
             without -= stock;
             is_counted[glass] = true;
+        }
+        i += 1;
+    }
+    true
+}
+
+// Whether each of the first `count` entries is above the one before it.
+fn is_rising(count: usize, group: [u32; LONGEST]) -> bool {
+    let mut i = 1;
+    while i < LONGEST {
+        if (i < count) & (group[i] <= group[i - 1]) {
+            return false;
         }
         i += 1;
     }

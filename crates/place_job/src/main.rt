@@ -1,4 +1,5 @@
-// Whether `place` keeps what document 01 says of it: "The placing", with the refusals of "What each cause gives".
+// Whether `place` keeps what document 01 says of it: "The placing", with the refusals of "What each cause gives"; and document 02,
+// 2026-04, of the order of the group.
 //
 // Each argument is the name of a job file, with which the call is made several times. A line for each file says `NAME: full` or
 // `NAME: short`, whether every pane was placed; `NAME: refused NUMBER OFFSET`; or `NAME: wrong: RULE`, the first rule that was

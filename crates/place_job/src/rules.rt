@@ -1,4 +1,4 @@
-// The rules that the result of a call keeps: document 01, "The placing".
+// The rules that the result of a call keeps: document 01, "The placing", and document 02, 2026-04, on the order of the group.
 use crate::answers::check_answers;
 use crate::groups::check_full_group;
 use crate::groups::check_short_group;
@@ -31,6 +31,7 @@ pub(crate) enum Rule {
     EmptyGroup,
     GroupIds,
     GroupSheets,
+    GroupOrder,
 }
 
 // Holds a result, and the lists that the call left, to the rules.

@@ -39,7 +39,10 @@ fn write_list_rule(rule: Rule) {
         ),
         Rule::EmptyGroup => write(b"not all panes are placed, but the group is empty\n"),
         Rule::GroupIds => write(b"a group entry is not the id of a pane, or is there twice\n"),
-        _ => write(b"the group is not short: its glasses have a sheet for each pane\n"),
+        Rule::GroupSheets => write(
+            b"the group is not short: its glasses have a sheet for each pane\n",
+        ),
+        _ => write(b"the ids of the group do not rise from first to last\n"),
     }
 }
 
