@@ -36,6 +36,19 @@ pub fn compare<L: Library>(library: &L, file: &[u8], random: &mut Random) -> Out
     outcome
 }
 
+/// Compares what the program printed of a file with the text that the library gave, and holds it to the
+/// rules by itself.
+pub fn compare_printed(file: &[u8], printed: &[u8], outcome: &mut Outcome) {
+    if printed != outcome.text {
+        let expected = format!("{:?}", String::from_utf8_lossy(&outcome.text));
+        let came = format!("{:?}", String::from_utf8_lossy(printed));
+        outcome.find("canopy", expected, came);
+    }
+    let expected = reader::read(file).map(Roof::of);
+    let expected = expected.as_ref().map_err(|refusal| *refusal);
+    outcome.find_broken("canopy", check_text(expected, printed));
+}
+
 struct Case<'a, L> {
     library: &'a L,
     file: &'a [u8],
@@ -132,11 +145,13 @@ impl<L: Library> Case<'_, L> {
             return;
         };
         let panes = roof.job.panes().len();
-        let answer = self.place(panes, panes, outcome);
+        let (answer, lists) = self.place(panes, panes, outcome);
         if answer.placed == answer.wanted {
             outcome.tally.full_placings += 1;
         } else {
+            let group = &lists.group.entries()[..answer.group.min(panes)];
             outcome.tally.short_placings += 1;
+            outcome.tally.reordered_groups += u64::from(!roof.rises_in_file_order(group));
         }
         self.place(panes + longer, panes + longest, outcome);
         self.place(panes + longest, panes, outcome);
@@ -151,7 +166,7 @@ impl<L: Library> Case<'_, L> {
         }
     }
 
-    fn place(&self, answers: usize, group: usize, outcome: &mut Outcome) -> PlaceResult {
+    fn place(&self, answers: usize, group: usize, outcome: &mut Outcome) -> (PlaceResult, Lists) {
         let mut lists = Lists {
             answers: LentList::new(answers, ANSWER_MARK),
             group: LentList::new(group, GROUP_MARK),
@@ -169,7 +184,7 @@ impl<L: Library> Case<'_, L> {
         };
         let call = format!("place with lists of {answers} and {group}");
         outcome.find_broken(&call, broken);
-        answer
+        (answer, lists)
     }
 
     fn report(&self, outcome: &mut Outcome) {

@@ -10,11 +10,11 @@ pub struct LentList {
 }
 
 impl LentList {
-    /// A list to lend `length` entries of. The entries are marked from `mark` upwards; no mark may
-    /// be an id or 0.
+    /// A list to lend `length` entries of. The entries are marked from `mark` downwards, so that the
+    /// marks change places where the whole list is sorted. No mark may be an id or 0.
     pub fn new(length: usize, mark: u32) -> LentList {
         LentList {
-            entries: (mark..).take(length + 2 * GUARD).collect(),
+            entries: marks(mark).take(length + 2 * GUARD).collect(),
             mark,
         }
     }
@@ -31,7 +31,7 @@ impl LentList {
     /// Says which entry other than the first `count` lent ones was written, if one was.
     pub fn written_beyond(&self, count: usize) -> Option<String> {
         let allowed = GUARD..GUARD + count;
-        let mut marked = (self.mark..).zip(&self.entries).enumerate();
+        let mut marked = marks(self.mark).zip(&self.entries).enumerate();
         let (at, (_, entry)) =
             marked.find(|(at, (mark, entry))| !allowed.contains(at) && mark != *entry)?;
         let place = at as isize - GUARD as isize;
@@ -40,9 +40,22 @@ impl LentList {
     }
 }
 
+fn marks(first: u32) -> impl Iterator<Item = u32> {
+    (0..=first).rev()
+}
+
 #[cfg(test)]
 mod tests {
     use super::*;
+
+    #[test]
+    fn a_sorted_list_shows() {
+        let mut list = LentList::new(4, 0xa000_0000);
+        list.lend()[..2].copy_from_slice(&[9, 7]);
+        assert_eq!(list.written_beyond(2), None);
+        list.lend().sort();
+        assert!(list.written_beyond(2).is_some());
+    }
 
     #[test]
     fn every_written_entry_shows() {

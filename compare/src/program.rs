@@ -1,5 +1,6 @@
 //! The program `canopy` with a file on its standard input: document 01, "The program `canopy`".
 
+use compare::comparison::compare_printed;
 use compare::outcome::Outcome;
 use std::io::{self, Read, Write};
 use std::path::{Path, PathBuf};
@@ -35,7 +36,7 @@ impl Canopy {
         }
     }
 
-    /// Compares what the program prints of a file with the text that the library gave.
+    /// Runs the program on a file, and compares what it prints.
     pub fn compare(&self, file: &[u8], outcome: &mut Outcome) {
         let run = match self.run(file) {
             Ok(run) => run,
@@ -53,11 +54,7 @@ impl Canopy {
         if status.code() != Some(0) {
             outcome.find("canopy", "exit status 0", status.to_string());
         }
-        if run.output != outcome.text {
-            let expected = format!("{:?}", String::from_utf8_lossy(&outcome.text));
-            let came = format!("{:?}", String::from_utf8_lossy(&run.output));
-            outcome.find("canopy", expected, came);
-        }
+        compare_printed(file, &run.output, outcome);
     }
 
     fn run(&self, file: &[u8]) -> io::Result<Run> {

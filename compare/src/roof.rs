@@ -40,6 +40,12 @@ impl Roof {
         panes.position(|pane| u32::from(pane.id) == id)
     }
 
+    /// Whether a group that is listed in file order has rising ids too.
+    pub fn rises_in_file_order(&self, group: &[u32]) -> bool {
+        let ids = self.job.panes().iter().map(|pane| u32::from(pane.id));
+        ids.filter(|id| group.contains(id)).is_sorted()
+    }
+
     pub fn glass_of_id(&self, id: u32) -> Option<usize> {
         let mut glasses = self.job.glasses().iter();
         glasses.position(|glass| u32::from(glass.id) == id)

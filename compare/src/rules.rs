@@ -1,4 +1,5 @@
-//! What holds of every placing: document 01, "The placing", and its demands 2 and 3.
+//! What holds of every placing: document 01, "The placing", and its demands 2 and 3, with the order of a
+//! short group by document 02, 2026-04.
 
 use crate::clauses::PASSES;
 use crate::roof::Roof;
@@ -14,6 +15,7 @@ pub const NO_GROUP: &str = "the group count is 0 where placed is wanted";
 pub const GROUP: &str = "the short group is non-empty and has panes of the file, each once";
 pub const SHORT: &str =
     "the sheets of the glasses that pass for the group are fewer than its panes";
+pub const RISING: &str = "each id of the short group is above the one before it";
 
 /// A rule that does not hold, and where.
 #[derive(Clone, Debug, PartialEq, Eq)]
@@ -69,6 +71,7 @@ pub fn check_placing(roof: &Roof, placing: &Placing) -> Vec<Broken> {
 
     if placed != wanted {
         check_group(roof, group, &mut broken);
+        check_order(group, &mut broken);
     } else if !group.is_empty() {
         broken.push(Broken::new(NO_GROUP, format!("a group of {}", group.len())));
     }
@@ -148,5 +151,15 @@ fn check_group(roof: &Roof, group: &[u32], broken: &mut Vec<Broken>) {
     if sheets >= panes && panes > 0 {
         let came = format!("a group of {panes} panes with {sheets} sheets");
         broken.push(Broken::new(SHORT, came));
+    }
+}
+
+/// Tells of the first id that is not above the one before it. Document 02, 2026-04, leaves open which
+/// group it is, so that order is a rule of its own. An id that is there twice breaks it as well.
+fn check_order(group: &[u32], broken: &mut Vec<Broken>) {
+    let mut neighbours = group.windows(2);
+    if let Some(pair) = neighbours.find(|pair| pair[0] >= pair[1]) {
+        let came = format!("{} and then {} in the group", pair[0], pair[1]);
+        broken.push(Broken::new(RISING, came));
     }
 }

@@ -17,6 +17,9 @@ pub struct Tally {
     pub refused_verdicts: u64,
     pub full_placings: u64,
     pub short_placings: u64,
+    /// Files with a short group whose ids do not rise in file order, so that listing it in file order is
+    /// found.
+    pub reordered_groups: u64,
     /// Files with a placing of fewer panes than possible.
     pub not_greatest: u64,
     pub programs_run: u64,
@@ -32,6 +35,7 @@ impl Tally {
         self.refused_verdicts += other.refused_verdicts;
         self.full_placings += other.full_placings;
         self.short_placings += other.short_placings;
+        self.reordered_groups += other.reordered_groups;
         self.not_greatest += other.not_greatest;
         self.programs_run += other.programs_run;
         self.slowest_program = self.slowest_program.max(other.slowest_program);
@@ -61,6 +65,7 @@ impl Display for Tally {
         row("verdicts, refused", self.refused_verdicts)?;
         row("placings, full", self.full_placings)?;
         row("placings, short", self.short_placings)?;
+        row("groups not in file order", self.reordered_groups)?;
         row("placings, fewer than possible", self.not_greatest)?;
         row("runs of canopy", self.programs_run)?;
         let slowest = self.slowest_program.as_secs_f64() * 1_000.0;

@@ -1,5 +1,5 @@
 //! Job files by seed, of seven kinds, for "The job file" and all that follows in document 01, and for
-//! document 02, 2026-01 to 2026-03.
+//! document 02, 2026-01 to 2026-04.
 
 mod boundaries;
 mod cut_sizes;
@@ -11,6 +11,7 @@ mod easy;
 mod fields;
 mod honest;
 mod house_roofs;
+mod ids;
 mod limits;
 mod plan;
 mod pressures;

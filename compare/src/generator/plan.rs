@@ -1,6 +1,7 @@
 //! The glasses and panes of a job before they are written as lines.
 
-use crate::job::{Glass, Pane, LARGEST_ID, MOST_GLASSES, MOST_PANES};
+use super::ids::ids;
+use crate::job::{Glass, Pane, MOST_GLASSES, MOST_PANES};
 use crate::random::Random;
 
 #[derive(Default)]
@@ -39,27 +40,5 @@ pub fn either_way_round((one, other): (u16, u16), random: &mut Random) -> (u16, 
         (one, other)
     } else {
         (other, one)
-    }
-}
-
-/// Different ids: counted up or down, spread over all ids, or the first and the last of them.
-fn ids(count: usize, random: &mut Random) -> Vec<u16> {
-    let largest = LARGEST_ID as u16;
-    let count = count as u16;
-    let first = random.draw(1..=largest - count);
-    match random.below(4) {
-        0 => (1..=count).collect(),
-        1 => (first..first + count).rev().collect(),
-        2 => {
-            let step = largest / count.max(1);
-            let mut ids: Vec<u16> = (0..count).map(|at| largest - at * step).collect();
-            random.shuffle(&mut ids);
-            ids
-        }
-        _ => {
-            let low = (1..=count / 2).rev();
-            low.chain(largest - count.div_ceil(2) + 1..=largest)
-                .collect()
-        }
     }
 }

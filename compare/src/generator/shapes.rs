@@ -9,7 +9,7 @@ use super::plan::{either_way_round, sizes, Plan};
 use super::pressures::least_constant;
 use super::winds::Winds;
 use crate::clauses::cut_size;
-use crate::job::{Glass, Pane, Wind};
+use crate::job::{Glass, Pane, Wind, MOST_PANES};
 use crate::random::Random;
 
 /// A pane's glasses, first and last.
@@ -28,11 +28,12 @@ const PRESSURES: Wind = Wind::Pressures { down: 60, up: 95 };
 pub fn plan(random: &mut Random) -> Plan {
     let (glasses, panes) = sizes(random);
     let (glasses, panes) = (glasses.max(2), panes.max(2));
-    let mut shape = match random.below(5) {
+    let mut shape = match random.below(6) {
         0 => chain(glasses, random),
         1 => nested(glasses, panes, random),
         2 => intervals(glasses, panes, random),
         3 => shortage(glasses, panes, random),
+        4 => only_group(random.draw(2..=6), few_or_many(random), random),
         _ => tight(glasses, panes, random),
     };
     if random.one_in(2) {
@@ -160,6 +161,34 @@ fn shortage(glasses: usize, panes: usize, random: &mut Random) -> Shape {
     let many = panes / 2 + random.draw(0..=panes / 2);
     let mut intervals = vec![(first, last); many];
     intervals.extend((many..panes).map(|_| any_interval(glasses, random)));
+    Shape { stocks, intervals }
+}
+
+/// Numbers of panes. With few glasses, many panes are soon compared.
+fn few_or_many(random: &mut Random) -> usize {
+    match random.below(4) {
+        0 => random.draw(100..=MOST_PANES),
+        _ => random.draw(2..=12),
+    }
+}
+
+/// Panes on the first glasses, which have one sheet less than there are such panes, while every other
+/// pane has a glass with more sheets than there are panes. So there is one short group and no other: one
+/// pane, some or all.
+fn only_group(glasses: usize, panes: usize, random: &mut Random) -> Shape {
+    let some = random.draw(1..=panes);
+    let group = random.pick(&[1, panes, some, some]);
+    let first_glasses = random.draw(1..=glasses - 1);
+    let mut stocks = vec![0; first_glasses];
+    for _ in 1..group {
+        stocks[random.below(first_glasses)] += 1;
+    }
+    stocks.resize(glasses, 999);
+    let mut intervals = vec![(0, first_glasses - 1); group];
+    intervals.extend((group..panes).map(|_| {
+        let last = random.draw(first_glasses..=glasses - 1);
+        (random.draw(0..=last), last)
+    }));
     Shape { stocks, intervals }
 }
 

@@ -56,6 +56,7 @@ fn every_case_is_generated() {
     assert_eq!(counts.len(), 3 + Kind::ALL.len() + 7 + 5);
     assert!(counts.iter().all(|&count| count >= few), "{tally}");
     assert_eq!(tally.refused[7], 0, "{tally}");
+    assert!(tally.reordered_groups >= few, "{tally}");
     assert!(
         largest > 2_000,
         "no text of a large roof, at most {largest}"

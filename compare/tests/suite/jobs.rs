@@ -49,6 +49,32 @@ Q 2 4 30 0 3000 900 1500 5 2
 T 00000 00066
 ";
 
+/// Panes 100, 9 and 10 are short, and there is no other short group: only glass 9, with two sheets, passes
+/// for them. Pane 55 has glass 7.
+pub const UNSORTED_JOB: &[u8] = b"G 9 1 12 2400 3600 21304 23857 2
+G 7 1 10 2400 3600 17976 20130 2
+P 100 4 10 0 3000 500 1000 60 95
+P 9 4 10 0 3000 500 1000 60 95
+P 55 4 30 0 3000 900 1500 60 95
+P 10 4 10 0 3000 500 1000 60 95
+T 00000 00066
+";
+
+/// The ids fall in file order. All panes are short, and there is no other short group.
+pub const FALLING_JOB: &[u8] = b"G 9 1 12 2400 3600 21304 23857 3
+P 9999 4 10 0 3000 500 1000 60 95
+P 10 4 10 0 3000 500 1000 60 95
+P 9 4 10 0 3000 500 1000 60 95
+P 1 4 10 0 3000 500 1000 60 95
+T 00000 00033
+";
+
+/// Without glasses, either pane is a short group, and so are both.
+pub const BARE_JOB: &[u8] = b"P 9999 4 10 0 3000 500 1000 60 95
+P 1 4 10 0 3000 500 1000 60 95
+T 00000 00000
+";
+
 /// A file of these parts, without notes.
 fn file(glass_part: &str, pane_part: &str) -> Vec<u8> {
     format!("{glass_part}{pane_part}T 00000 {:05}\n", glass_part.len()).into_bytes()

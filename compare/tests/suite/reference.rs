@@ -1,5 +1,5 @@
 //! A right library made of the second implementation, for the tests to alter. It places by a
-//! simple search for moves, so that its counts also check the max flow.
+//! simple search for moves, so that its counts also check the max flow. Then it sorts the group by id.
 
 use compare::bordavina::{CheckResult, PlaceResult, VerdictResult, TEXT_SIZE};
 use compare::calls::Library;
@@ -48,9 +48,9 @@ impl Library for Reference {
         for (entry, glass) in answers.iter_mut().zip(&search.glass_of) {
             *entry = glass.map_or(0, |glass| roof.job.glasses()[glass].id.into());
         }
-        for (entry, &pane) in short_group.iter_mut().zip(&group) {
-            *entry = panes[pane].id.into();
-        }
+        let mut group: Vec<u32> = group.iter().map(|&pane| panes[pane].id.into()).collect();
+        group.sort();
+        short_group[..group.len()].copy_from_slice(&group);
         PlaceResult {
             wanted: panes.len(),
             placed: search.glass_of.iter().flatten().count(),

@@ -1,6 +1,8 @@
 //! A library with wrong answers, each of which the comparison of a file has to find.
 
-use crate::jobs::{CUT_JOB, EXAMPLE_J, HOUSE_JOB, RIBBON_JOB, SHORT_JOB};
+use crate::jobs::{
+    BARE_JOB, CUT_JOB, EXAMPLE_J, FALLING_JOB, HOUSE_JOB, RIBBON_JOB, SHORT_JOB, UNSORTED_JOB,
+};
 use crate::reference::Reference;
 use compare::bordavina::{CheckResult, PlaceResult, VerdictResult, TEXT_SIZE};
 use compare::calls::Library;
@@ -69,6 +71,9 @@ fn unaltered_answers() {
         RIBBON_JOB,
         CUT_JOB,
         HOUSE_JOB,
+        UNSORTED_JOB,
+        FALLING_JOB,
+        BARE_JOB,
         b"",
         b"T 00000 00000\n",
         b"GT 00000 00001\n",
@@ -182,7 +187,7 @@ fn fill_last(list: &mut [u32]) {
 
 #[test]
 fn altered_placings() {
-    let alterations: [(AlterPlace, &[u8], &str); 12] = [
+    let alterations: [(AlterPlace, &[u8], &str); 13] = [
         (|answer, _, _| answer.number = 1, EXAMPLE_J, ACCEPTED),
         (|answer, _, _| answer.offset = 1, EXAMPLE_J, ACCEPTED),
         (|answer, _, _| answer.wanted += 1, EXAMPLE_J, WANTED),
@@ -196,6 +201,7 @@ fn altered_placings() {
         (|_, answers, _| answers.fill(9), EXAMPLE_J, ANSWERS_LEFT),
         (|_, _, group| group.fill(1), EXAMPLE_J, GROUP_LEFT),
         (|_, _, group| fill_last(group), SHORT_JOB, GROUP_LEFT),
+        (|_, _, group| group.sort(), SHORT_JOB, GROUP_LEFT),
         (|_, answers, _| answers.fill(0), b"--", ANSWERS_LEFT),
         (|_, _, group| group.fill(0), b"--", GROUP_LEFT),
         (|answer, _, _| answer.wanted = 1, b"--", REFUSED),

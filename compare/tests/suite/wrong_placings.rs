@@ -1,11 +1,13 @@
 //! Wrong placings, each of which has to be found by the rules that it breaks.
 
-use crate::jobs::{CUT_JOB, EXAMPLE_J, HOUSE_JOB, RIBBON_JOB, SHORT_JOB};
+use crate::jobs::{
+    BARE_JOB, CUT_JOB, EXAMPLE_J, FALLING_JOB, HOUSE_JOB, RIBBON_JOB, SHORT_JOB, UNSORTED_JOB,
+};
 use compare::reader::read;
 use compare::roof::Roof;
 use compare::rules::{
-    check_placing, Placing, ALL_SERVED, GREATEST, GROUP, NO_GROUP, PASSING, PLACED, SHORT, SPARE,
-    STOCK, WANTED,
+    check_placing, Placing, ALL_SERVED, GREATEST, GROUP, NO_GROUP, PASSING, PLACED, RISING, SHORT,
+    SPARE, STOCK, WANTED,
 };
 
 /// The rules that a placing breaks.
@@ -30,10 +32,10 @@ fn broken(
 fn right_placings() {
     assert_eq!(broken(EXAMPLE_J, &[7, 9], (2, 2), &[]), [""; 0]);
     assert_eq!(broken(SHORT_JOB, &[7, 9, 0], (2, 3), &[3, 4]), [""; 0]);
-    assert_eq!(broken(SHORT_JOB, &[7, 0, 9], (2, 3), &[4, 3]), [""; 0]);
+    assert_eq!(broken(SHORT_JOB, &[7, 0, 9], (2, 3), &[3, 4]), [""; 0]);
     assert_eq!(broken(RIBBON_JOB, &[7, 9], (2, 2), &[]), [""; 0]);
     assert_eq!(broken(CUT_JOB, &[9, 0], (1, 2), &[1, 2]), [""; 0]);
-    assert_eq!(broken(CUT_JOB, &[0, 9], (1, 2), &[2, 1]), [""; 0]);
+    assert_eq!(broken(CUT_JOB, &[0, 9], (1, 2), &[1, 2]), [""; 0]);
     assert_eq!(broken(HOUSE_JOB, &[7, 9], (2, 2), &[]), [""; 0]);
 }
 
@@ -94,10 +96,63 @@ fn glass_over_its_stock() {
 fn wrong_groups() {
     let group = |group: &[u32]| broken(SHORT_JOB, &[7, 9, 0], (2, 3), group);
     assert_eq!(group(&[]), [GROUP]);
-    assert_eq!(group(&[3, 4, 4]), [GROUP]);
     assert_eq!(group(&[3, 4, 5]), [GROUP]);
     assert_eq!(group(&[4]), [SHORT]);
     assert_eq!(group(&[1, 3, 4]), [SHORT]);
-    assert_eq!(group(&[3, 3]), [GROUP, SHORT]);
     assert_eq!(broken(EXAMPLE_J, &[7, 9], (2, 2), &[1]), [NO_GROUP]);
+}
+
+/// The right panes, but not by id: document 02, 2026-04.
+#[test]
+fn groups_out_of_order() {
+    let group = |group: &[u32]| broken(UNSORTED_JOB, &[9, 9, 7, 0], (3, 4), group);
+    assert_eq!(group(&[9, 10, 100]), [""; 0]);
+    for (order, ids) in [
+        ("file order", [100, 9, 10]),
+        ("highest first", [100, 10, 9]),
+        ("as text", [10, 100, 9]),
+        ("the first two exchanged", [10, 9, 100]),
+        ("the last two exchanged", [9, 100, 10]),
+    ] {
+        assert_eq!(group(&ids), [RISING], "{order}");
+    }
+}
+
+#[test]
+fn all_panes_in_file_order_where_ids_fall() {
+    let group = |group: &[u32]| broken(FALLING_JOB, &[9, 9, 9, 0], (3, 4), group);
+    assert_eq!(group(&[1, 9, 10, 9999]), [""; 0]);
+    assert_eq!(group(&[9999, 10, 9, 1]), [RISING]);
+}
+
+/// Which group is listed stays open, and a single pane is always in order.
+#[test]
+fn any_short_group_by_id() {
+    let group = |group: &[u32]| broken(BARE_JOB, &[0, 0], (0, 2), group);
+    assert_eq!(group(&[1]), [""; 0]);
+    assert_eq!(group(&[9999]), [""; 0]);
+    assert_eq!(group(&[1, 9999]), [""; 0]);
+    assert_eq!(group(&[9999, 1]), [RISING]);
+}
+
+/// An id that is there twice is told as such and as not rising, whether or not its two places are
+/// neighbours.
+#[test]
+fn an_id_twice() {
+    let group = |group: &[u32]| broken(SHORT_JOB, &[7, 9, 0], (2, 3), group);
+    for ids in [[3, 3, 4], [3, 4, 4], [3, 4, 3], [4, 3, 4]] {
+        assert_eq!(group(&ids), [GROUP, RISING], "{ids:?}");
+    }
+    assert_eq!(group(&[3, 3]), [GROUP, SHORT, RISING]);
+}
+
+/// A wrong group is told by its own rules, in order or not.
+#[test]
+fn wrong_groups_out_of_order() {
+    let group = |group: &[u32]| broken(SHORT_JOB, &[7, 9, 0], (2, 3), group);
+    assert_eq!(group(&[4, 1]), [SHORT, RISING]);
+    assert_eq!(group(&[4, 3, 1]), [SHORT, RISING]);
+    assert_eq!(group(&[5, 3, 4]), [GROUP, RISING]);
+    assert_eq!(group(&[3, 4, 0]), [GROUP, RISING]);
+    assert_eq!(broken(EXAMPLE_J, &[7, 9], (2, 2), &[2, 1]), [NO_GROUP]);
 }

@@ -1,9 +1,9 @@
 //! Wrong texts, each of which has to be found by the rules that it breaks.
 
-use crate::jobs::{EXAMPLE_J, SHORT_JOB};
+use crate::jobs::{BARE_JOB, EXAMPLE_J, FALLING_JOB, SHORT_JOB, UNSORTED_JOB};
 use compare::reader::read;
 use compare::roof::Roof;
-use compare::rules::{GROUP, SHORT, STOCK};
+use compare::rules::{GROUP, RISING, SHORT, STOCK};
 use compare::text::{check_text, FORM, PANES, REFUSAL, SHORT_LINE};
 
 /// The rules that a text breaks.
@@ -66,6 +66,48 @@ fn texts_of_a_short_job() {
     ] {
         assert_eq!(text(end), [FORM], "{end:?}");
     }
+}
+
+/// The right panes, but not by id: document 02, 2026-04.
+#[test]
+fn short_lines_out_of_order() {
+    let text = |end: &str| {
+        let text = format!("100 9\n9 9\n55 7\n10 0\n3 4\n{end}");
+        broken_text(UNSORTED_JOB, &text)
+    };
+    assert_eq!(text("short 9 10 100\n"), [""; 0]);
+    for (order, line) in [
+        ("file order", "short 100 9 10\n"),
+        ("highest first", "short 100 10 9\n"),
+        ("as text", "short 10 100 9\n"),
+        ("the first two exchanged", "short 10 9 100\n"),
+        ("the last two exchanged", "short 9 100 10\n"),
+    ] {
+        assert_eq!(text(line), [RISING], "{order}");
+    }
+    assert_eq!(text("short 9 9 10 100\n"), [GROUP, RISING]);
+    assert_eq!(text("short 100 9\n"), [SHORT, RISING]);
+}
+
+#[test]
+fn short_lines_in_file_order_where_ids_fall() {
+    let all = |end: &str| {
+        let text = format!("9999 9\n10 9\n9 9\n1 0\n3 4\n{end}");
+        broken_text(FALLING_JOB, &text)
+    };
+    assert_eq!(all("short 1 9 10 9999\n"), [""; 0]);
+    assert_eq!(all("short 9999 10 9 1\n"), [RISING]);
+    let one_or_both = |end: &str| broken_text(BARE_JOB, &format!("9999 0\n1 0\n0 2\n{end}"));
+    assert_eq!(one_or_both("short 9999\n"), [""; 0]);
+    assert_eq!(one_or_both("short 1 9999\n"), [""; 0]);
+    assert_eq!(one_or_both("short 9999 1\n"), [RISING]);
+}
+
+/// The lines of panes stay in file order.
+#[test]
+fn lines_of_panes_by_id() {
+    let text = "1 0\n9 9\n10 9\n9999 9\n3 4\nshort 1 9 10 9999\n";
+    assert_eq!(broken_text(FALLING_JOB, text), [PANES]);
 }
 
 #[test]

@@ -1,9 +1,11 @@
-//! That the sides of a pane set the interval of glasses that pass for it, in every wind of its roof.
+//! That the sides of a pane set the interval of glasses that pass for it, in every wind of its roof, and
+//! that there is one short group where there is to be no other.
 
-use super::{pane, sheet, sides, FIRST_WIDTHS, PRESSURES, THICK};
+use super::{only_group, pane, sheet, sides, Shape, FIRST_WIDTHS, PRESSURES, THICK};
 use crate::clauses::{Loads, FAILS_SIZE, FAILS_UNIFORM_LOAD, PASSES};
 use crate::generator::winds::Winds;
 use crate::job::{Glass, Pane, Wind, MOST_GLASSES};
+use crate::random::Random;
 use std::ops::RangeInclusive;
 
 /// The winds of a roof by pressures, by each class, and by both.
@@ -71,4 +73,38 @@ fn a_sheet_just_bears_its_widest_pane() {
             }
         }
     }
+}
+
+/// A group of one pane, of some and of all.
+#[test]
+fn one_short_group_and_no_other() {
+    const PANES: usize = 6;
+    let mut sizes = [0; PANES + 1];
+    for seed in 0..100 {
+        let mut random = Random::of_seed(seed);
+        let shape = only_group(random.draw(2..=5), PANES, &mut random);
+        let groups: Vec<Vec<usize>> = groups(PANES)
+            .filter(|group| is_short(&shape, group))
+            .collect();
+        assert_eq!(groups.len(), 1, "seed {seed}: {groups:?}");
+        sizes[groups[0].len()] += 1;
+    }
+    assert_eq!(sizes[0], 0);
+    assert!(sizes[1..].iter().all(|&count| count > 0), "{sizes:?}");
+}
+
+/// Every group of so many panes.
+fn groups(panes: usize) -> impl Iterator<Item = Vec<usize>> {
+    let is_in = |group: usize, pane: usize| group >> pane & 1 == 1;
+    (1..1 << panes).map(move |group| (0..panes).filter(|&pane| is_in(group, pane)).collect())
+}
+
+fn is_short(shape: &Shape, group: &[usize]) -> bool {
+    let passes = |glass| {
+        let mut intervals = group.iter().map(|&pane| shape.intervals[pane]);
+        intervals.any(|(first, last)| (first..=last).contains(&glass))
+    };
+    let stocks = shape.stocks.iter().enumerate();
+    let sheets = stocks.filter(|&(glass, _)| passes(glass));
+    sheets.map(|(_, &stock)| usize::from(stock)).sum::<usize>() < group.len()
 }
