@@ -1,4 +1,4 @@
-//! The placing in safe Rust: document 01, "The placing".
+//! The placing in safe Rust: document 01, "The placing", and document 02, 2026-04.
 
 use compare::clauses::{Loads, PASSES};
 use compare::job::{Glass, Job, Pane, MOST_GLASSES, MOST_PANES};
@@ -82,7 +82,8 @@ fn write_answers(held: &[usize], glasses: &[Glass], answers: &mut [u32]) -> usiz
     placed
 }
 
-/// Writes the ids of the panes that can have no glass but tight ones, and counts them.
+/// Writes the ids of the panes that can have no glass but tight ones, from the lowest up, and
+/// counts them: document 02, 2026-04.
 fn write_group(rows: &[u64], tight: u64, panes: &[Pane], group: &mut [u32]) -> usize {
     let mut count = 0;
     for (row, pane) in rows.iter().zip(panes) {
@@ -91,6 +92,7 @@ fn write_group(rows: &[u64], tight: u64, panes: &[Pane], group: &mut [u32]) -> u
             count += 1;
         }
     }
+    group[..count].sort_unstable();
     count
 }
 

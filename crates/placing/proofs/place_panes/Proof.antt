@@ -13,51 +13,51 @@ use Rattle.placing.proofs.place_panes.Statement.{statement}
 use Rattle.placing.proofs.place_panes.Tie as tie
 
 -- Where the rows and the numbers were made.
-abbrev start : tie.After-numbers-of → tie.Start
-start n = n .before .before .before .before
+abbrev start : tie.After-rows-of → tie.Start
+start r = r .before .before .before .before
 
-abbrev numbers : tie.After-numbers-of → JobNumbers
-numbers n = n .numbers-of .result
+abbrev numbers : tie.After-rows-of → JobNumbers
+numbers r = r .before .numbers-of .result
 
-same-count : (n : tie.After-numbers-of) → numbers n .«pane_count» ≡ start n .args .job .«pane_count»
-same-count n = let s = start n in as-many-panes (s .args .job) (s .pre .0) (numbers n) (n .numbers-of .ensures)
+same-count : (r : tie.After-rows-of) → numbers r .«pane_count» ≡ start r .args .job .«pane_count»
+same-count r = let s = start r in as-many-panes (s .args .job) (s .pre .0) (numbers r) (r .before .numbers-of .ensures)
 
-most : (n : tie.After-numbers-of) → numbers n .«pane_count» ≤ 256
-most n = let s = start n in omega (arith, same-count n, few-panes (s .args .job) (s .pre .0))
+most : (r : tie.After-rows-of) → numbers r .«pane_count» ≤ 256
+most r = let s = start r in omega (arith, same-count r, few-panes (s .args .job) (s .pre .0))
 
 -- As many rows, ids and places as there are panes.
 as-many :
-    (n : tie.After-numbers-of) (xs : List ℕ) → length xs ≡ 256 →
-    length (take (numbers n .«pane_count») xs) ≡ numbers n .«pane_count»
-as-many n xs long = length-take-le _ xs (omega (arith, long, most n))
+    (r : tie.After-rows-of) (xs : List ℕ) → length xs ≡ 256 →
+    length (take (numbers r .«pane_count») xs) ≡ numbers r .«pane_count»
+as-many r xs long = length-take-le _ xs (omega (arith, long, most r))
 
 rows-long : (r : tie.After-rows-of) → length (r .rows-of .result) ≡ 256
 rows-long r = search needs
 
-ids-long : (n : tie.After-numbers-of) → length (numbers n .«pane_ids») ≡ 256
-ids-long n = search needs
+ids-long : (r : tie.After-rows-of) → length (numbers r .«pane_ids») ≡ 256
+ids-long r = search needs
 
 abbrev zeros : List ℕ
 zeros = replicate 256 0
 
 lists-fit : tie.Need-place-rows-requires
 lists-fit c κs =
-    let n = c .before .before .before .before .before .before .before .before .before .before in
-    let rows = as-many n (n .before .rows-of .result) (rows-long (n .before)) in (
-      omega (arith, rows, as-many n (numbers n .«pane_ids») (ids-long n)),
-      as-many n zeros refl ∙ sym rows,
-      omega (arith, rows, same-count n, start n .pre .1),
-      omega (arith, rows, same-count n, start n .pre .2),
+    let r = c .before .before .before .before .before .before .before .before .before .before in
+    let rows = as-many r (r .rows-of .result) (rows-long r) in (
+      omega (arith, rows, as-many r (numbers r .«pane_ids») (ids-long r)),
+      as-many r zeros refl ∙ sym rows,
+      omega (arith, rows, same-count r, start r .pre .1),
+      omega (arith, rows, same-count r, start r .pre .2),
     )
 
 returns : tie.Need-returns
 returns c =
     let p = c .before .before .before .before .before in
-    let n = p .before .before .before .before .before .before .before .before .before .before .before in
-    let s = start n in
+    let r = p .before .before .before .before .before .before .before .before .before .before .before in
+    let s = start r in
     p .place-rows .ensures .of-any _
-    (stated-job (s .args .job) (s .pre .0) (n .before .rows-of .result) (numbers n) (rows-long (n .before))
-    (n .before .rows-of .ensures) (n .numbers-of .ensures)) .glazed
+    (stated-job (s .args .job) (s .pre .0) (r .rows-of .result) (numbers r) (rows-long r)
+    (r .rows-of .ensures) (r .before .numbers-of .ensures)) .glazed
 
 pub place-panes-spec : {M : Type 1} → statement M
 place-panes-spec =
@@ -65,13 +65,13 @@ place-panes-spec =
     (tie.spec
     (λ c κs. search needs)
     (λ c κs. search needs)
-    (λ c. let n = c .before .before .before in omega (arith, rows-long (n .before), most n))
+    (λ c. let r = c .before .before .before in omega (arith, rows-long r, most r))
     (λ c.
-    let n = c .before .before .before .before in sym (as-many n (n .before .rows-of .result) (rows-long (n .before))))
-    (λ c. let n = c .before .before .before .before .before .before in omega (arith, ids-long n, most n))
-    (λ c. let n = c .before .before .before .before .before .before .before in sym (as-many n (numbers n .«pane_ids») (ids-long n)))
-    (λ c. let n = c .before .before .before .before .before .before .before in omega (arith, most n))
-    (λ c. let n = c .before .before .before .before .before .before .before .before in sym (as-many n zeros refl))
+    let r = c .before .before .before .before in sym (as-many r (r .rows-of .result) (rows-long r)))
+    (λ c. let r = c .before .before .before .before .before .before in omega (arith, ids-long r, most r))
+    (λ c. let r = c .before .before .before .before .before .before .before in sym (as-many r (numbers r .«pane_ids») (ids-long r)))
+    (λ c. let r = c .before .before .before .before .before .before .before in omega (arith, most r))
+    (λ c. let r = c .before .before .before .before .before .before .before .before in sym (as-many r zeros refl))
     lists-fit
     (λ c. search needs)
     (λ c. search needs)
