@@ -1,4 +1,4 @@
-// The placing over rows: document 01, "The placing".
+// The placing over rows: document 01, "The placing", and document 02, 2026-04.
 //
 // `place_rows` gives panes sheets. It knows of no file and no clause: panes of any kind bring a row and an id each, glasses their
 // sheets and ids. specs/Internal/Promise.antt says what it gives.
@@ -21,8 +21,8 @@ pub struct PlaceCounts {
     pub group: usize,
 }
 
-// Writes the id of a glass, or 0, for each pane, and the ids of a short group where a pane is left with 0. `held` gets the number
-// of each pane's glass, 64 for none. It asks for no more than lists that are long enough.
+// Writes the id of a glass, or 0, for each pane, and the ids of a short group, from the lowest up, where a pane is left with 0.
+// `held` gets the number of each pane's glass, 64 for none. It asks for no more than lists that are long enough.
 pub fn place_rows(
     rows: &[u64],
     sheets: &[u32; 64],

@@ -24,7 +24,8 @@ pub record HeldGlazed (s : Schedule) (held : List ℕ) (r : PlaceCounts) (answer
 -- The promise, for any rows, sheets and ids. Whatever schedule they state, its panes were placed. Where they state none, as with
 -- ids that don't tell panes apart, the glasses held are still a greatest matching by the rows, the answers are the ids at the
 -- numbers held, placed counts those that are not 0, and each list keeps its later entries. The group list got nothing where placed
--- is the number of panes, and else the ids of the panes that can have no glass but a tight one.
+-- is the number of panes, and else the ids of the panes that can have no glass but a tight one: from the lowest up, each once, and
+-- none above 9999.
 pub record RowsGlazed
     (rows sheets64 glassIds paneIds held : List ℕ) (r : PlaceCounts) (answers group : Lent) : Type 0 where
   pub of-any : (s : Schedule) → Stated s rows sheets64 glassIds paneIds → HeldGlazed s held r answers group
