@@ -11,9 +11,9 @@ use lib.Dec.{eqb}
 use lib.ListN.{length, getD, List·getD-eq-default}
 use borrow.Author.Tests.{eq-eqb, ne-eqb}
 use Rattle.basics.specs.Choice.{if_then_else_}
-use Rattle.ids.specs.Ids.{among, Rises}
+use Rattle.ids.specs.Ids.{Rises}
 use Rattle.ids.specs.Internal.Listing.{rising, Listed}
-use Rattle.ids.proofs.Rising.{numbers-rise}
+use Rattle.ids.proofs.Rising.{rising-rises}
 use Rattle.glass_set.specs.Internal.Member.{has}
 use Rattle.matching.specs.Internal.Matching.{Greatest}
 use Rattle.matching.specs.Internal.Rows.{taskOf, wayOf}
@@ -126,7 +126,7 @@ module _
       where
         go : (all : Bool) → Rises (if all then [] else rising (confinedIds paneIds rows tight))
         go true = λ k l. absurd (omega arith)
-        go false = numbers-rise (λ id. among id (confinedIds paneIds rows tight)) 10000
+        go false = rising-rises (confinedIds paneIds rows tight)
 
     due-short : (s : Schedule) → Stated s rows sheets64 glassIds paneIds → (placed ≡ length rows → ⊥) → ShortGroup s due
     due-short s b left =
