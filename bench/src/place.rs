@@ -1,11 +1,14 @@
 //! The placing in safe Rust: document 01, "The placing", and document 02, 2026-04.
 
 use compare::clauses::{Loads, PASSES};
-use compare::job::{Glass, Job, Pane, MOST_GLASSES, MOST_PANES};
+use compare::job::{Glass, Job, Pane, LARGEST_ID, MOST_GLASSES, MOST_PANES};
 use compare::reader::read;
 use compare::refusal::{Refusal, SHORT_LIST};
 
 use crate::search::{match_panes, NO_GLASS};
+
+/// Words enough for a bit of each id.
+const ID_WORDS: usize = LARGEST_ID as usize / 64 + 1;
 
 /// How many panes the file has, how many were given a glass and how many the short group has.
 pub struct Counts {
@@ -14,8 +17,8 @@ pub struct Counts {
     pub group: usize,
 }
 
-/// Writes the id of a glass, or 0, for each pane of a file, and the ids of a short group where a
-/// pane is left with 0. A refused call writes nothing.
+/// Writes the id of a glass, or 0, for each pane of a file, and the ids of a short group, from the
+/// lowest up, where a pane is left with 0. A refused call writes nothing.
 pub fn place(file: &[u8], answers: &mut [u32], group: &mut [u32]) -> Result<Counts, Refusal> {
     let job = read(file)?;
     let wanted = job.panes().len();
@@ -85,14 +88,21 @@ fn write_answers(held: &[usize], glasses: &[Glass], answers: &mut [u32]) -> usiz
 /// Writes the ids of the panes that can have no glass but tight ones, from the lowest up, and
 /// counts them: document 02, 2026-04.
 fn write_group(rows: &[u64], tight: u64, panes: &[Pane], group: &mut [u32]) -> usize {
-    let mut count = 0;
+    let mut ids = [0u64; ID_WORDS];
     for (row, pane) in rows.iter().zip(panes) {
         if row & !tight == 0 {
-            group[count] = u32::from(pane.id);
-            count += 1;
+            ids[usize::from(pane.id / 64)] |= 1 << (pane.id % 64);
         }
     }
-    group[..count].sort_unstable();
+    let mut count = 0;
+    for (first, &word) in (0..).step_by(64).zip(&ids) {
+        let mut rest = word;
+        while rest != 0 {
+            group[count] = first + rest.trailing_zeros();
+            count += 1;
+            rest &= rest - 1;
+        }
+    }
     count
 }
 

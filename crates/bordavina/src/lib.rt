@@ -35,7 +35,7 @@ pub extern "C" fn bordavina_verdict(file: &[u8], pane: u32, glass: u32) -> Verdi
     verdict_result(verdict(file, pane, glass))
 }
 
-// Gives the panes of a file sheets: the answers, the counts and a short group.
+// Gives the panes of a file sheets: the answers, the counts and a short group, from its lowest id up.
 #[no_mangle]
 pub extern "C" fn bordavina_place(
     file: &[u8],

@@ -16,7 +16,7 @@ use Rattle.bits.specs.Internal.Bit.{has}
 use Rattle.bits.proofs.Bits.{has-none, has-or, has-one}
 use Rattle.ids.specs.Internal.IdSets.{IdSet}
 use Rattle.ids.specs.Ids.{among}
-use Rattle.ids.proofs.Members.{among-append}
+use Rattle.ids.proofs.Members.{among-last}
 
 pub ids-none : IdSet (replicate 157 0) []
 unfolding among
@@ -32,10 +32,6 @@ same-bit id new word = go (eqb new id) refl
     go : (t : Bool) → eqb new id ≡ t → eqb (id % 64) (new % 64) ≡ t
     go true e = eq-eqb (id % 64) (new % 64) (ap (λ (n : ℕ). n % 64) (sym (eqb-true new id e)))
     go false e = ne-eqb (id % 64) (new % 64) (λ bit. eqb-false new id e (omega (arith, word, bit)))
-
-among-last : (id : ℕ) (ids : List ℕ) (new : ℕ) → among id (ids ++ (new ∷ [])) ≡ (among id ids || eqb new id)
-unfolding among
-among-last id ids new = rw (among-append id ids (new ∷ []), or-false (eqb new id))
 
 pub ids-more :
     (seen ids : List ℕ) (new : ℕ) → new ≤ 9999 → IdSet seen ids →

@@ -1,10 +1,11 @@
 -- Which ids stand in a list, and among the first of it.
 --     among-append   among two lists: among the one or the other
+--     among-last     among a list and one id more: among the list, or that id
 --     among-found    one of the first: among them
 --     among-all      what holds of each entry holds of every id that stands in the list
 use Prim.Native.Nat.{ℕ, zero, suc, _≤_, _<_}
 use mathlib.Core.Path.{_≡_, refl, ap, sym, subst, _∙_}
-use mathlib.Core.Bool.{Bool, true, false, _||_, or-assoc, or-true}
+use mathlib.Core.Bool.{Bool, true, false, _||_, or-assoc, or-true, or-false}
 use mathlib.Core.List.{List, [], _∷_, _++_}
 use native.Mathlib.Omega.{arith}
 use lib.Dec.{eqb}
@@ -18,6 +19,10 @@ unfolding among
 among-append n [] ys = refl
 among-append n (x ∷ xs) ys =
     ap (λ (b : Bool). eqb x n || b) (among-append n xs ys) ∙ sym (or-assoc (eqb x n) (among n xs) (among n ys))
+
+pub among-last : (n : ℕ) (xs : List ℕ) (x : ℕ) → among n (xs ++ (x ∷ [])) ≡ (among n xs || eqb x n)
+unfolding among
+among-last n xs x = rw (among-append n xs (x ∷ []), or-false (eqb x n))
 
 pub among-found : (n : ℕ) (xs : List ℕ) (i count : ℕ) → i < count → count ≤ length xs → getD xs i 0 ≡ n → among n (take count xs) ≡ true
 unfolding among
