@@ -5,7 +5,7 @@
  * is 0. Lent lists do not overlap one another or the file. The library is for x86-64.
  *
  * A thread with a stack of 128 KB can make every call. On threads with small stacks, bordavina_check returned on 32 KB,
- * bordavina_verdict on 48 KB, bordavina_place on 60 KB and bordavina_report on 76 KB, and on 4 KB less they did not.
+ * bordavina_verdict on 48 KB, bordavina_place on 48 KB and bordavina_report on 64 KB, and on 4 KB less they did not.
  *
  * A job file has a line for each glass, with the letter G, and for each pane, with the letter P or Q. The numbers of both pane
  * lines are the same but for the last two: wind pressures down and up, 0 to 1000 in units of 0.01 kPa, on a P line; a wind class,
@@ -97,7 +97,8 @@ bordavina_verdict_result bordavina_verdict(const uint8_t *file, size_t file_leng
  *
  * If it is, `group` is 0 and `short_group` is untouched. If it is not, the first `group` entries of `short_group` are ids of
  * panes, from the lowest up and each once, that show why: the stocks of all glasses that pass for at least one of these
- * panes, each glass counted once, add up to less than `group`. Later entries are untouched.
+ * panes, each glass counted once, add up to less than `group`. Later entries are untouched. Before request 2026-04 the ids
+ * came in the order of the file.
  *
  * Which passing glass a pane has, which panes are placed when not all can be, and which group is listed, may change from one
  * version to the next. A refusal leaves both lists untouched; each list needs an entry for every pane, or the call is refused
