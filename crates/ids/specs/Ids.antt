@@ -1,9 +1,8 @@
 -- Lists of ids.
-use Prim.Native.Nat.{ℕ, _+_, _<_}
+use Prim.Native.Nat.{ℕ}
 use mathlib.Core.Bool.{Bool, false, not, _||_}
 use mathlib.Core.List.{List, [], _∷_}
 use lib.Dec.{T, eqb}
-use lib.ListN.{length, getD}
 
 -- Whether an id stands in a list.
 unfoldable pub among : ℕ → List ℕ → Bool
@@ -14,7 +13,3 @@ among n (m ∷ ms) = eqb m n || among n ms
 unfoldable pub Distinct : List ℕ → Type 0
 Distinct [] = Unit
 Distinct (n ∷ ns) = T (not (among n ns)) × Distinct ns
-
--- Each id of a list is below the next.
-abbrev pub Rises : List ℕ → Type 0
-Rises ids = (k : ℕ) → k + 1 < length ids → getD ids k 0 < getD ids (k + 1) 0

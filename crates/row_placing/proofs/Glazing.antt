@@ -11,9 +11,9 @@ use lib.Dec.{eqb}
 use lib.ListN.{length, getD, List·getD-eq-default}
 use borrow.Author.Tests.{eq-eqb, ne-eqb}
 use Rattle.basics.specs.Choice.{if_then_else_}
-use Rattle.ids.specs.Ids.{Rises}
-use Rattle.ids.specs.Internal.Listing.{rising, Listed}
-use Rattle.ids.proofs.Rising.{rising-rises}
+use Rattle.rising_ids.specs.Rises.{Rises}
+use Rattle.rising_ids.specs.Internal.Listing.{rising, Listed}
+use Rattle.rising_ids.proofs.Rising.{rising-rises}
 use Rattle.glass_set.specs.Internal.Member.{has}
 use Rattle.matching.specs.Internal.Matching.{Greatest}
 use Rattle.matching.specs.Internal.Rows.{taskOf, wayOf}

@@ -11,8 +11,8 @@ use lib.ListN.{length, getD}
 use Rattle.basics.specs.Choice.{if_then_else_}
 use Rattle.basics.proofs.Tests.{both-true}
 use Rattle.ids.specs.Ids.{among}
-use Rattle.ids.proofs.Listing.{list-length}
-use Rattle.ids.proofs.OneOf.{OneOf, list-among, list-at, list-once}
+use Rattle.rising_ids.proofs.Listing.{list-length}
+use Rattle.rising_ids.proofs.OneOf.{OneOf, list-among, list-at, list-once}
 use Rattle.ranges.proofs.Any.{any-found}
 use Rattle.ranges.proofs.Sums.{sum-le, sum-wider}
 use Rattle.glass_set.specs.Internal.Member.{has, isWithin}

@@ -10,9 +10,9 @@ use lib.Dec.{eqb}
 use lib.ListN.{length, getD, set, take}
 use Rattle.basics.specs.Choice.{if_then_else_}
 use Rattle.ranges.proofs.Counts.{count-le}
-use Rattle.ids.specs.Internal.Listing.{rising}
-use Rattle.ids.proofs.Listing.{list-length}
-use Rattle.ids.proofs.Rising.{rising-few}
+use Rattle.rising_ids.specs.Internal.Listing.{rising}
+use Rattle.rising_ids.proofs.Listing.{list-length}
+use Rattle.rising_ids.proofs.Rising.{rising-few}
 use Rattle.row_placing.specs.Internal.Entries.{entriesAt}
 use Rattle.row_placing.specs.Placing.{nonzero}
 use Rattle.basics.specs.Lent.{lent}

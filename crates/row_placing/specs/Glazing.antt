@@ -5,7 +5,7 @@ use Prim.Native.Nat.{ℕ}
 use mathlib.Core.Path.{_≡_}
 use mathlib.Core.List.{List, []}
 use lib.ListN.{length}
-use Rattle.ids.specs.Ids.{Rises}
+use Rattle.rising_ids.specs.Rises.{Rises}
 use Rattle.row_placing.specs.Schedule.{Schedule}
 use Rattle.row_placing.specs.Placing.{nonzero, Placing, NoneToSpare, FullPlacing}
 use Rattle.row_placing.specs.ShortGroup.{ShortGroup}

@@ -6,7 +6,7 @@ use mathlib.Core.List.{List, []}
 use lib.Dec.{eqb}
 use lib.ListN.{length, getD}
 use Rattle.basics.specs.Choice.{if_then_else_}
-use Rattle.ids.specs.Internal.Listing.{listTo, rising}
+use Rattle.rising_ids.specs.Internal.Listing.{listTo, rising}
 use Rattle.glass_set.specs.Internal.Member.{isWithin}
 use Rattle.row_placing.specs.Internal.Entries.{entriesAt}
 use Rattle.row_placing.specs.Placing.{nonzero}

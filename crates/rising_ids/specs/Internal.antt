@@ -1,0 +1,2 @@
+-- Ids listed in order.
+pub mod Listing
