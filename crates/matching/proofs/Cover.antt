@@ -94,6 +94,12 @@ greatest-of t tight glassOf w or-none c none-tight = record {
   none-to-spare = λ p l e g k pass.
       c .all-given g k (confined-at t tight p g (c .left-over p l (λ has. omega arith)) k pass);
   greatest = λ other w′. omega (arith, served-le-cover t tight other w′, cover-le-served t tight glassOf c);
-  shortage = λ short. omega (arith, cover-le-served t tight glassOf c, count-not (confined t tight) (t .panes));
+  shortage =
+      omega (
+        arith,
+        served-le-cover t tight glassOf w,
+        cover-le-served t tight glassOf c,
+        count-not (confined t tight) (t .panes),
+      );
   none-tight = none-tight;
 }

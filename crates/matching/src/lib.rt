@@ -19,7 +19,7 @@ ghost use Rattle.matching.specs.Internal.Rows.{taskOf, wayOf};
 pub const NO_GLASS: usize = 64;
 
 // Gives each pane the number of a glass, or `NO_GLASS`, so that no way to give them serves more. The answer is a set of tight
-// glasses: where a pane has no glass, the panes that can have none but these are more than their sheets. It is empty where every
+// glasses: the panes that can have none but these are more than their sheets by as many as have no glass. It is empty where every
 // pane has one.
 pub fn match_panes(rows: &[u64], sheets: [u32; 64], held: &mut [usize]) -> u64
     requires { ⌜ length (now held) ≡ length (now rows) ⌝ }

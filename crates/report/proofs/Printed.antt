@@ -114,7 +114,7 @@ module _ (job : Job) (read : ReadJob job) where
       group-short = go (same-or-not (r .placed) (length (schedule .pane-ids)))
         where
           of-panes : ShortGroup schedule (g .group-ids) → FourDigits (g .group-ids)
-          of-panes s k l = let p = s .of-panes k l in omega (arith, p .is-id, pane-short (p .place) (p .within))
+          of-panes s k l = let p = s .some-panes .of-panes k l in omega (arith, p .is-id, pane-short (p .place) (p .within))
 
           go :
               (r .placed ≡ length (schedule .pane-ids)) ⊎ (r .placed ≡ length (schedule .pane-ids) → ⊥) → FourDigits (g .group-ids)

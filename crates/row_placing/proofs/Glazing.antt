@@ -1,7 +1,8 @@
--- The promise of `place_rows`, from what each part of it leaves: the search, the answers and the group.
+-- The promise of `place_rows`, from what each part of it leaves: the search, the answers and the group. The group lacks a sheet for each
+-- pane left over, and no group lacks more than any placing leaves over: so no placing places more.
 --     rows-full     every pane is placed
 --     rows-short    a pane is left over, and the group is written
-use Prim.Native.Nat.{ℕ, _≤_}
+use Prim.Native.Nat.{ℕ, _-_, _≤_, _<_}
 use mathlib.Core.Path.{_≡_, refl, ap, sym, subst, _∙_}
 use mathlib.Core.Logic.{_⊎_, inl, inr}
 use mathlib.Core.Bool.{Bool, true, false}
@@ -9,8 +10,9 @@ use mathlib.Core.List.{List, []}
 use native.Mathlib.Omega.{arith}
 use lib.Dec.{eqb}
 use lib.ListN.{length, getD, List·getD-eq-default}
-use borrow.Author.Tests.{eq-eqb, ne-eqb}
+use borrow.Author.Tests.{eqb-true, eq-eqb, ne-eqb}
 use Rattle.basics.specs.Choice.{if_then_else_}
+use Rattle.ids.specs.Ids.{Distinct}
 use Rattle.rising_ids.specs.Rises.{Rises}
 use Rattle.rising_ids.specs.Internal.Listing.{rising, Listed}
 use Rattle.rising_ids.proofs.Rising.{rising-rises}
@@ -19,8 +21,8 @@ use Rattle.matching.specs.Internal.Matching.{Greatest}
 use Rattle.matching.specs.Internal.Rows.{taskOf, wayOf}
 use Rattle.row_placing.specs.Schedule.{Schedule}
 use Rattle.row_placing.specs.Internal.Entries.{entriesAt}
-use Rattle.row_placing.specs.Placing.{nonzero}
-use Rattle.row_placing.specs.ShortGroup.{ShortGroup}
+use Rattle.row_placing.specs.Placing.{nonzero, Placing}
+use Rattle.row_placing.specs.ShortGroup.{PaneGroup, lacking, ShortGroup}
 use Rattle.row_placing.specs.Glazing.{Glazing}
 use Rattle.row_placing.specs.Internal.Holding.{PassingNumber, Holding}
 use Rattle.row_placing.specs.Internal.Stated.{Stated}
@@ -33,9 +35,9 @@ use Rattle.row_placing.proofs.Entries.{entries-long, entries-same}
 use Rattle.row_placing.proofs.Ids.{nonzero-le}
 use Rattle.basics.proofs.Lent.{wrote}
 use Rattle.row_placing.proofs.Bridge.{each-held, is-placing, none-spare}
-use Rattle.row_placing.proofs.Others.{full-placed}
-use Rattle.row_placing.proofs.Shortage.{short-group}
-use Rattle.row_placing.proofs.Risen.{risen-short}
+use Rattle.row_placing.proofs.Shortage.{tight-panes, tight-whole}
+use Rattle.row_placing.proofs.Risen.{risen-panes, risen-lacking}
+use Rattle.row_placing.proofs.PlacingLaws.{placing-laws}
 use Rattle.row_placing.proofs.Writes.{group-few}
 
 module _
@@ -81,25 +83,51 @@ module _
       placed-is : placed ≡ nonzero (entriesAt (s .glass-ids) held)
       placed-is = answered .placed-is ∙ ap nonzero same-ids
 
-      glazing :
-          (listed : List ℕ) → (placed ≡ length rows → listed ≡ []) → ((placed ≡ length rows → ⊥) → ShortGroup s listed) →
-          Rises listed → Glazing s (entriesAt (s .glass-ids) held) listed placed
-      glazing listed equal less up = record {
-        placing = is-placing b held tight as-many best;
-        none-to-spare = none-spare b held tight as-many best;
-        placed-is = placed-is;
-        all-placed =
-            λ e.
-            record {
-              ids = entriesAt (s .glass-ids) held;
-              placing = is-placing b held tight as-many best;
-              every-pane = sym placed-is ∙ e;
-            };
-        all-placeable = λ full. placed-is ∙ full-placed b held tight as-many best full;
-        if-equal = λ e. equal (e ∙ sym (b .a-row-each));
-        if-less = λ left. less (λ e. left (e ∙ b .a-row-each));
-        rises = up;
-      }
+      -- A group that lacks a sheet for each pane left over is what the placing is to give, if it is empty where there is none.
+      module _
+          (listed : List ℕ)
+          (equal : placed ≡ length rows → listed ≡ [])
+          (up : Rises listed)
+          (panes : PaneGroup s listed)
+          (whole : lacking s listed ≡ length (s .pane-ids) - placed)
+        where
+          most-placed : (other : List ℕ) → Placing s other → nonzero other ≤ placed
+          most-placed other placing =
+              let laws = placing-laws s in
+              omega (arith, whole, laws .lacking-most other listed placing panes, laws .at-most other placing)
+
+          short : (placed ≡ length (s .pane-ids) → ⊥) → ShortGroup s listed
+          short left =
+              record {
+                not-empty = omega (arith, whole, few-placed, left, b .a-row-each);
+                some-panes = panes;
+                short = omega (arith, whole, few-placed, left, b .a-row-each);
+              }
+
+          glazing : Glazing s (entriesAt (s .glass-ids) held) listed placed
+          glazing = record {
+            placing = is-placing b held tight as-many best;
+            none-to-spare = none-spare b held tight as-many best;
+            placed-is = placed-is;
+            all-placed =
+                λ e.
+                record {
+                  ids = entriesAt (s .glass-ids) held;
+                  placing = is-placing b held tight as-many best;
+                  every-pane = sym placed-is ∙ e;
+                };
+            all-placeable =
+                λ full. omega (arith, few-placed, b .a-row-each, most-placed (full .ids) (full .placing), full .every-pane);
+            most-placed = most-placed;
+            if-equal = λ e. equal (e ∙ sym (b .a-row-each));
+            if-less = short;
+            rises = up;
+            whole-shortage = whole;
+            no-more-lacking =
+                λ other is.
+                rw placed-is
+                (placing-laws s .lacking-most (entriesAt (s .glass-ids) held) other (is-placing b held tight as-many best) is);
+          }
 
       holding : Holding s held (entriesAt (s .glass-ids) held)
       holding = record { one-each = as-many; each = each-held b held tight as-many best; ids-are = refl }
@@ -128,11 +156,26 @@ module _
         go true = λ k l. absurd (omega arith)
         go false = rising-rises (confinedIds paneIds rows tight)
 
-    due-short : (s : Schedule) → Stated s rows sheets64 glassIds paneIds → (placed ≡ length rows → ⊥) → ShortGroup s due
-    due-short s b left =
-        rw (due-group left)
-        (risen-short (b .known) (confinedIds paneIds rows tight)
-        (short-group b held tight (as-many s b) best (λ e. left (placed-is s b ∙ e ∙ sym (b .a-row-each)))))
+    module _ (s : Schedule) (b : Stated s rows sheets64 glassIds paneIds) where
+      due-panes : PaneGroup s due
+      unfolding Distinct
+      due-panes = go (eqb placed (length rows))
+        where
+          go : (all : Bool) → PaneGroup s (if all then [] else rising (confinedIds paneIds rows tight))
+          go true = record { of-panes = λ k l. absurd (omega arith); each-once = tt }
+          go false = risen-panes (b .known) (confinedIds paneIds rows tight) (tight-panes b tight)
+
+      due-whole : lacking s due ≡ length (s .pane-ids) - placed
+      due-whole = go (eqb placed (length rows)) refl
+        where
+          go :
+              (all : Bool) → eqb placed (length rows) ≡ all →
+              lacking s (if all then [] else rising (confinedIds paneIds rows tight)) ≡ length (s .pane-ids) - placed
+          go true is = omega (arith, eqb-true placed (length rows) is, b .a-row-each)
+          go false is =
+              risen-lacking (b .known) (confinedIds paneIds rows tight) (tight-panes b tight)
+              ∙ tight-whole b tight held (as-many s b) best
+              ∙ ap (λ (n : ℕ). length (s .pane-ids) - n) (sym (placed-is s b))
 
     -- The promise is kept if that is what was written.
     kept :
@@ -145,7 +188,7 @@ module _
             glazed = record {
               ids = entriesAt (s .glass-ids) held;
               group-ids = due;
-              glazing = glazing s b due due-none (due-short s b) due-rises;
+              glazing = glazing s b due due-none due-rises (due-panes s b) (due-whole s b);
               wanted-is = b .a-row-each;
               group-is = refl;
               answers-written = subst (λ (ids : List ℕ). Wrote ids answers) (same-ids s b) answers-are;

@@ -6,7 +6,6 @@ pub mod Ids
 pub mod Numbers
 -- From what the search promises of numbers to what the promise says of ids.
 pub mod Bridge
-pub mod Others
 pub mod Shortage
 pub mod Risen
 -- What the code writes, entry by entry.

@@ -1,11 +1,7 @@
 -- The glasses and panes of a schedule by their places, here called numbers: since no id stands twice, an id says which one it is.
---     same-glass      one id, one glass
---     glass-test      a test of ids is one of numbers
---     same-pane       one id, one pane
---     numberOf        the number of the glass of an id, 64 where there is none
---     number-found    below 64, it is the number of a glass that has the id
---     number-low      it is below 64 where a glass has the id
-use Prim.Native.Nat.{ℕ, _≤_, _<_}
+--     glass-test    a test of ids is one of numbers
+--     same-pane     one id, one pane
+use Prim.Native.Nat.{ℕ, _<_}
 use mathlib.Core.Path.{_≡_, refl, ap, sym}
 use mathlib.Core.Bool.{Bool, true, false}
 use mathlib.Core.List.{List}
@@ -13,10 +9,6 @@ use native.Mathlib.Omega.{arith}
 use lib.Dec.{ltb, eqb}
 use lib.ListN.{length, getD, List·getD-eq-default}
 use borrow.Author.Tests.{ltb-true, ltb-false, eqb-true, eqb-false, eq-eqb, ne-eqb}
-use Rattle.ids.specs.Lookup.{placeOf}
-use Rattle.ids.specs.declared.IdPlace.{IdPlace}
-use Rattle.ids.specs.declared.IdPlace.the-variants.{At, Missing}
-use Rattle.ids.proofs.Lookups.{Found, place-found, place-missing}
 use Rattle.row_placing.specs.Schedule.{Schedule}
 use Rattle.row_placing.specs.Internal.Stated.{Known}
 
@@ -31,7 +23,7 @@ module _ (ids : List ℕ) (apart : (i j : ℕ) → i < j → j < length ids → 
       go false false below above = omega (arith, ltb-false i j below, ltb-false j i above)
 
 module _ {s : Schedule} (known : Known s) where
-  pub same-glass : (g j : ℕ) → j < length (s .glass-ids) → getD (s .glass-ids) g 0 ≡ getD (s .glass-ids) j 0 → g ≡ j
+  same-glass : (g j : ℕ) → j < length (s .glass-ids) → getD (s .glass-ids) g 0 ≡ getD (s .glass-ids) j 0 → g ≡ j
   same-glass g j l e = go (ltb g (length (s .glass-ids))) refl
     where
       go : (b : Bool) → ltb g (length (s .glass-ids)) ≡ b → g ≡ j
@@ -50,24 +42,3 @@ module _ {s : Schedule} (known : Known s) where
   pub same-pane :
       (p q : ℕ) → p < length (s .pane-ids) → q < length (s .pane-ids) → getD (s .pane-ids) p 0 ≡ getD (s .pane-ids) q 0 → p ≡ q
   same-pane = same-number (s .pane-ids) (known .panes-differ)
-
-abbrev numberAt : IdPlace → ℕ
-numberAt (At g) = g
-numberAt Missing = 64
-
-abbrev pub numberOf : ℕ → List ℕ → ℕ
-numberOf id ids = numberAt (placeOf id ids)
-
-pub number-found : (id : ℕ) (ids : List ℕ) → numberOf id ids < 64 → Found id ids (numberOf id ids)
-number-found id ids l = go (placeOf id ids) refl l
-  where
-    go : (place : IdPlace) → placeOf id ids ≡ place → numberAt place < 64 → Found id ids (numberAt place)
-    go (At g) is l = place-found id ids g is
-    go Missing is l = absurd (omega arith)
-
-pub number-low : (id : ℕ) (ids : List ℕ) (j : ℕ) → length ids ≤ 64 → j < length ids → getD ids j 0 ≡ id → numberOf id ids < 64
-number-low id ids j few l e = go (placeOf id ids) refl
-  where
-    go : (place : IdPlace) → placeOf id ids ≡ place → numberAt place < 64
-    go (At g) is = omega (arith, place-found id ids g is .within)
-    go Missing is = absurd (place-missing id ids j is l e)

@@ -1,7 +1,9 @@
--- Where a pane is left over, the panes whose passing glasses are all tight are a short group: a glass that suits one of them
--- is tight, and the search promises that the tight glasses have fewer sheets than there are such panes.
---     short-group    they are a short group
-use Prim.Native.Nat.{ℕ, _≤_, _<_}
+-- The panes whose passing glasses are all tight are a group that lacks a sheet for each pane left over. It lacks no fewer: a glass that
+-- suits one of them is tight, and the search promises that the tight glasses have so many sheets fewer than there are such panes. No group
+-- lacks more.
+--     tight-panes    they are panes, each once
+--     tight-whole    they lack so many sheets
+use Prim.Native.Nat.{ℕ, _+_, _-_, _≤_, _<_}
 use mathlib.Core.Path.{_≡_, refl, sym, _∙_}
 use mathlib.Core.Bool.{Bool, true, false, _&&_}
 use mathlib.Core.List.{List}
@@ -22,11 +24,12 @@ use Rattle.matching.specs.Internal.Rows.{taskOf, wayOf}
 use Rattle.row_placing.specs.Schedule.{Schedule}
 use Rattle.row_placing.specs.Internal.Entries.{entriesAt}
 use Rattle.row_placing.specs.Placing.{nonzero}
-use Rattle.row_placing.specs.ShortGroup.{suits, sheetsFor, PaneId, ShortGroup}
+use Rattle.row_placing.specs.ShortGroup.{suits, sheetsFor, PaneId, PaneGroup, lacking}
 use Rattle.row_placing.specs.Internal.Stated.{Stated}
 use Rattle.row_placing.specs.Internal.Steps.{confinedTo, confinedIds}
 use Rattle.row_placing.proofs.Numbers.{same-pane}
-use Rattle.row_placing.proofs.Bridge.{bit-of-glass, placed-served, placed-le}
+use Rattle.row_placing.proofs.Bridge.{bit-of-glass, is-placing, placed-served, placed-le}
+use Rattle.row_placing.proofs.PlacingLaws.{group-bound}
 
 -- What a glass adds to the sheets: its own if it is counted.
 part-le : (a c : Bool) (x y : ℕ) → (a ≡ true → c ≡ true) → x ≡ y → (if a then x else 0) ≤ (if c then y else 0)
@@ -64,42 +67,52 @@ module _
           (λ j l. part-le _ _ _ _ (suits-tight j l) (sym (b .sheets-are j l))))
           (sum-wider (λ j. if has tight j then getD sheets64 j 0 else 0) (length (s .glass-ids)) 64 (b .known .few))
 
-    module _
-        (held : List ℕ)
-        (tight : ℕ)
-        (long : length held ≡ length (s .pane-ids))
-        (best : Greatest (taskOf rows sheets64) (wayOf held) (has tight))
-      where
-        -- Some pane is not served, so the tight glasses have fewer sheets than the group has panes.
-        tight-short :
-            (nonzero (entriesAt (s .glass-ids) held) ≡ length (s .pane-ids) → ⊥) →
-            sheetsOf (taskOf rows sheets64) (has tight) < length (confinedIds paneIds rows tight)
-        tight-short left =
-            let most = placed-le b held tight long best in
-            rw (list-length (λ p. getD paneIds p 0) (confinedTo rows tight) (length rows))
-            (best .shortage (omega (arith, placed-served b held tight long best, b .a-row-each)))
+      id-at : (p : ℕ) → p < length rows → getD paneIds p 0 ≡ getD (s .pane-ids) p 0
+      id-at p l = b .pane-ids-are p (omega (arith, b .a-row-each))
 
-        pub short-group :
-            (nonzero (entriesAt (s .glass-ids) held) ≡ length (s .pane-ids) → ⊥) →
-            ShortGroup s (confinedIds paneIds rows tight)
-        short-group left = record {
-          not-empty = omega (arith, tight-short left);
-          of-panes = λ k l. of-panes (list-at (λ p. getD paneIds p 0) (confinedTo rows tight) (length rows) k l);
-          each-once = list-once (λ p. getD paneIds p 0) (confinedTo rows tight) (length rows) one-pane;
-          short = omega (arith, tight-short left, sheets-fewer tight);
-        }
-          where
-            id-at : (p : ℕ) → p < length rows → getD paneIds p 0 ≡ getD (s .pane-ids) p 0
-            id-at p l = b .pane-ids-are p (omega (arith, b .a-row-each))
+      pub tight-panes : PaneGroup s (confinedIds paneIds rows tight)
+      tight-panes = record {
+        of-panes = λ k l. of-panes (list-at (λ p. getD paneIds p 0) (confinedTo rows tight) (length rows) k l);
+        each-once = list-once (λ p. getD paneIds p 0) (confinedTo rows tight) (length rows) one-pane;
+      }
+        where
+          one-pane : (p q : ℕ) → p < length rows → q < length rows → getD paneIds p 0 ≡ getD paneIds q 0 → p ≡ q
+          one-pane p q l k e =
+              same-pane (b .known) p q (omega (arith, b .a-row-each)) (omega (arith, b .a-row-each))
+              (sym (id-at p l) ∙ e ∙ id-at q k)
 
-            one-pane : (p q : ℕ) → p < length rows → q < length rows → getD paneIds p 0 ≡ getD paneIds q 0 → p ≡ q
-            one-pane p q l k e =
-                same-pane (b .known) p q (omega (arith, b .a-row-each)) (omega (arith, b .a-row-each))
-                (sym (id-at p l) ∙ e ∙ id-at q k)
+          of-panes : {id : ℕ} → OneOf (λ p. getD paneIds p 0) (confinedTo rows tight) (length rows) id → PaneId s id
+          of-panes m = record {
+            place = m .number;
+            within = omega (arith, m .below, b .a-row-each);
+            is-id = sym (id-at (m .number) (m .below)) ∙ m .is-id;
+          }
 
-            of-panes : {id : ℕ} → OneOf (λ p. getD paneIds p 0) (confinedTo rows tight) (length rows) id → PaneId s id
-            of-panes m = record {
-              place = m .number;
-              within = omega (arith, m .below, b .a-row-each);
-              is-id = sym (id-at (m .number) (m .below)) ∙ m .is-id;
-            }
+      module _
+          (held : List ℕ)
+          (long : length held ≡ length (s .pane-ids))
+          (best : Greatest (taskOf rows sheets64) (wayOf held) (has tight))
+        where
+          -- The group has more panes than the tight glasses have sheets, by the panes that are not served.
+          tight-short :
+              length group + nonzero (entriesAt (s .glass-ids) held)
+              ≡ sheetsOf (taskOf rows sheets64) (has tight) + length (s .pane-ids)
+          tight-short =
+              omega (
+                arith,
+                list-length (λ p. getD paneIds p 0) (confinedTo rows tight) (length rows),
+                best .shortage,
+                placed-served b held tight long best,
+                b .a-row-each,
+              )
+
+          pub tight-whole :
+              lacking s (confinedIds paneIds rows tight) ≡ length (s .pane-ids) - nonzero (entriesAt (s .glass-ids) held)
+          tight-whole =
+              omega (
+                arith,
+                tight-short,
+                sheets-fewer,
+                placed-le b held tight long best,
+                group-bound s (entriesAt (s .glass-ids) held) (is-placing b held tight long best) group tight-panes,
+              )

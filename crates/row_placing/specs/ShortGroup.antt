@@ -1,6 +1,6 @@
 -- Document 01, "The placing", and demand 3: why panes can't all be placed. All glasses that pass for at least one pane of a group have
 -- fewer sheets together than the group has panes. A group is a list of pane ids.
-use Prim.Native.Nat.{ℕ, _<_}
+use Prim.Native.Nat.{ℕ, _-_, _<_}
 use mathlib.Core.Path.{_≡_}
 use mathlib.Core.Bool.{Bool, _&&_}
 use mathlib.Core.List.{List}
@@ -24,9 +24,17 @@ pub record PaneId (s : Schedule) (id : ℕ) : Type 0 where
   pub within : place < length (s .pane-ids)
   pub is-id : getD (s .pane-ids) place 0 ≡ id
 
+-- Some panes, each once.
+pub record PaneGroup (s : Schedule) (group : List ℕ) : Type 0 where
+  pub of-panes : (k : ℕ) → k < length group → PaneId s (getD group k 0)
+  pub each-once : Distinct group
+
+-- How many sheets a group lacks: its panes less those sheets, and 0 where there are enough.
+abbrev pub lacking : Schedule → List ℕ → ℕ
+lacking s group = length group - sheetsFor s group
+
 -- Some panes, at least one and each once, for which there are fewer sheets than panes.
 pub record ShortGroup (s : Schedule) (group : List ℕ) : Type 0 where
   pub not-empty : 0 < length group
-  pub of-panes : (k : ℕ) → k < length group → PaneId s (getD group k 0)
-  pub each-once : Distinct group
+  pub some-panes : PaneGroup s group
   pub short : sheetsFor s group < length group

@@ -1,6 +1,6 @@
 -- Document 01, "The placing", of panes and glasses by their numbers, counted from 0. Nothing here knows of a file, a verdict or
 -- a row: which glass passes for which pane and how many sheets there are of each is given.
-use Prim.Native.Nat.{ℕ, _≤_, _<_}
+use Prim.Native.Nat.{ℕ, _+_, _≤_, _<_}
 use mathlib.Core.Path.{_≡_}
 use mathlib.Core.Bool.{Bool, true, false, not, _||_}
 use lib.Dec.{ltb, eqb}
@@ -41,7 +41,7 @@ abbrev pub sheetsOf : Task → (ℕ → Bool) → ℕ
 sheetsOf t some = sumTo (λ g. if some g then t .sheets g else 0) (t .glasses)
 
 -- A matching that no other beats, and some glasses that show why: the panes that must have one of them are more than their
--- sheets, where a pane is left over; and where none is, there are no such glasses.
+-- sheets by exactly the panes that are left over. Where none is, there are no such glasses.
 pub record Greatest (t : Task) (glassOf : ℕ → ℕ) (tight : ℕ → Bool) : Type 0 where
   pub matching : Matching t glassOf
   pub or-none : (p : ℕ) → p < t .panes → glassOf p ≤ t .glasses
@@ -50,5 +50,5 @@ pub record Greatest (t : Task) (glassOf : ℕ → ℕ) (tight : ℕ → Bool) : 
       (p : ℕ) → p < t .panes → glassOf p ≡ t .glasses →
       (g : ℕ) → g < t .glasses → t .passes p g ≡ true → given t glassOf g ≡ t .sheets g
   pub greatest : (other : ℕ → ℕ) → Matching t other → served t other ≤ served t glassOf
-  pub shortage : served t glassOf < t .panes → sheetsOf t tight < countTo (confined t tight) (t .panes)
+  pub shortage : countTo (confined t tight) (t .panes) + served t glassOf ≡ sheetsOf t tight + t .panes
   pub none-tight : served t glassOf ≡ t .panes → (g : ℕ) → tight g ≡ false
