@@ -35,17 +35,18 @@ module _
     waits : wayOf held next ≡ 64
     waits = s .waiting next (omega arith) turn
 
-    pub servable : Servable rows held next tight
-    servable = record {
+    pub servable : (seen : ℕ) → Servable rows held next seen
+    servable seen = record {
       same-length = s .same-length;
       of-rows = turn;
       settled = λ u. omega (arith, u .below, waits);
     }
 
-    -- A search that is stuck has found more tight glasses.
+    -- A search that is stuck has found more tight glasses, which are kept.
     pub standing-stuck :
-        (now : ℕ) → NotServed rows held held next spare tight now → Standing rows sheets held left spare now (next + 1)
-    standing-stuck now n = record {
+        (after : List ℕ) (now kept : ℕ) → after ≡ held → NotServed rows held held next spare tight now → kept ≡ now →
+        Standing rows sheets after left spare kept (next + 1)
+    standing-stuck after now kept unchanged n same = rw (unchanged, same) (record {
       same-length = s .same-length;
       all-glasses = s .all-glasses;
       counted = s .counted;
@@ -53,13 +54,13 @@ module _
       suits = s .suits;
       waiting = λ p k l. s .waiting p (omega arith) l;
       all-given = λ g l e. given g l e (has tight g) refl;
-      holders = λ p l h. kept p l h (has tight (wayOf held p)) refl;
+      holders = λ p l h. confined p l h (has tight (wayOf held p)) refl;
       left-over =
           one-more (λ p. p < length rows → wayOf held p ≡ 64 → Within (getD rows p 0) now) next
           (λ p l k e. wider p (s .left-over p l k e))
           (λ k e. n .row-seen);
       none-tight = λ all. absurd (omega (arith, all next (omega arith) turn, waits));
-    }
+    })
       where
         given : (g : ℕ) → g < 64 → has now g ≡ true → (x : Bool) → has tight g ≡ x → getD left g 0 ≡ 0
         given g l e true is = s .all-given g l is
@@ -70,11 +71,11 @@ module _
         wider : (p : ℕ) → Within (getD rows p 0) tight → Within (getD rows p 0) now
         wider p w = within-trans (getD rows p 0) tight now w (n .grown .keeps)
 
-        kept :
+        confined :
             (p : ℕ) → p < length rows → Held now (wayOf held p) → (x : Bool) → has tight (wayOf held p) ≡ x →
             Within (getD rows p 0) now
-        kept p l h true is = wider p (s .holders p l (record { below = h .below; in-set = is }))
-        kept p l h false is = n .grown .exhausted (wayOf held p) (h .below) (h .in-set) is .holders p l refl
+        confined p l h true is = wider p (s .holders p l (record { below = h .below; in-set = is }))
+        confined p l h false is = n .grown .exhausted (wayOf held p) (h .below) (h .in-set) is .holders p l refl
 
     module _
         (after : List ℕ) (last : ℕ) (long : length after ≡ length held)

@@ -91,10 +91,9 @@ module _
           (panes : PaneGroup s listed)
           (whole : lacking s listed ≡ length (s .pane-ids) - placed)
         where
-          most-placed : (other : List ℕ) → Placing s other → nonzero other ≤ placed
-          most-placed other placing =
-              let laws = placing-laws s in
-              omega (arith, whole, laws .lacking-most other listed placing panes, laws .at-most other placing)
+          -- No placing leaves fewer panes over.
+          no-fewer-over : (other : List ℕ) → Placing s other → length (s .pane-ids) - placed ≤ length (s .pane-ids) - nonzero other
+          no-fewer-over other is = rw (← whole) (placing-laws s .lacking-most other listed is panes)
 
           short : (placed ≡ length (s .pane-ids) → ⊥) → ShortGroup s listed
           short left =
@@ -117,8 +116,8 @@ module _
                   every-pane = sym placed-is ∙ e;
                 };
             all-placeable =
-                λ full. omega (arith, few-placed, b .a-row-each, most-placed (full .ids) (full .placing), full .every-pane);
-            most-placed = most-placed;
+                λ full. omega (arith, few-placed, b .a-row-each, no-fewer-over (full .ids) (full .placing), full .every-pane);
+            most-placed = λ other is. omega (arith, no-fewer-over other is, placing-laws s .at-most other is);
             if-equal = λ e. equal (e ∙ sym (b .a-row-each));
             if-less = short;
             rises = up;

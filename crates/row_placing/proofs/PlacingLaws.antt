@@ -207,11 +207,11 @@ placing-laws s = record {
     left ids group placing panes whole i l zero true is = is
     left ids group placing panes whole i l zero false out =
         absurd (
-          omega (
-            arith,
-            whole,
-            spare-bound s ids placing group panes i l zero out,
-            nonzero-count ids (length (s .pane-ids)) (placing .one-each),
-            count-less (λ p. not (eqb (getD ids p 0) 0)) (length (s .pane-ids)) i l (rw zero),
-          )
+        omega (
+          arith,
+          whole,
+          spare-bound s ids placing group panes i l zero out,
+          nonzero-count ids (length (s .pane-ids)) (placing .one-each),
+          count-less (λ p. not (eqb (getD ids p 0) 0)) (length (s .pane-ids)) i l (rw zero),
+        )
         )

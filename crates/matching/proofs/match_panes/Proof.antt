@@ -7,7 +7,8 @@ use mathlib.Core.Path.{_≡_, refl, ap, sym, subst⁻¹, _∙_}
 use mathlib.Core.List.{List}
 use lib.ListN.{length, getD, getD-replicate}
 use denote.Ref.{now}
-use Rattle.matching.specs.Internal.Steps.{Served}
+use Rattle.matching.specs.declared.search.Search.{Search}
+use Rattle.matching.specs.Internal.Steps.{Serves, Served}
 use Rattle.matching.proofs.Cases.{served-of, not-served-of}
 use Rattle.matching.proofs.Standing.{Standing, standing-first, standing-last}
 use Rattle.matching.proofs.Turns.{servable, some-left, standing-moved, standing-stuck}
@@ -43,6 +44,21 @@ start f = turn f .before .before .before .before .before .before .before .before
 has-turn : (f : tie.After-serve Inv-loop μ-loop) → turn f .loop .next < length (now (start f .args .rows))
 has-turn f = f .before .before .loop-test .taken
 
+begun :
+    (rows held after : List ℕ) (pane spare seen tight : ℕ) (answer : Search) →
+    Serves rows held after pane spare seen answer → seen ≡ tight → Serves rows held after pane spare tight answer
+begun rows held after pane spare seen tight answer s from = rw from at s
+
+-- The search begins from the tight glasses, so that what it leaves is told of them.
+searched :
+    (f : tie.After-serve Inv-loop μ-loop) →
+    let l = turn f .loop in
+    Serves (now (start f .args .rows)) (l .held) (f .serve .last .1 .0) (l .next) (l .spare) (l .tight) (f .serve .result)
+searched f =
+    let l = turn f .loop in
+    begun (now (start f .args .rows)) (l .held) (f .serve .last .1 .0) (l .next) (l .spare) _ (l .tight) (f .serve .result)
+    (f .serve .ensures) (omega arith)
+
 served :
     (c : tie.After-known-told Inv-loop μ-loop) →
     let f = c .before .before .before .before .before in
@@ -54,7 +70,7 @@ served c =
     let l = turn f .loop in
     let case = c .before .last .given in
     served-of (now (start f .args .rows)) (l .held) (l .held) (f .serve .last .1 .0) (l .next) (l .spare) (l .tight)
-    (f .serve .result) refl (case .0 .0) (case .1) (f .serve .ensures)
+    (f .serve .result) refl (case .0 .0) (case .1) (searched f)
 
 -- The last glass of the chain is one of the 64, and had a sheet left.
 is-glass : (c : tie.After-known-told Inv-loop μ-loop) → c .before .last .given .0 .0 < 64
@@ -87,10 +103,9 @@ loop-stuck c =
     let case = c .before .grown .given in
     let stuck =
     not-served-of (now (a .rows)) (l .held) (l .held) (f .serve .last .1 .0) (l .next) (l .spare) (l .tight)
-    (f .serve .result) refl (case .0 .0) (case .1) (f .serve .ensures) in
-    subst⁻¹ (λ (h : List ℕ). Standing (now (a .rows)) (a .sheets) h (l .left) (l .spare) (case .0 .0) (l .next + 1)) (stuck .0)
-    (standing-stuck (now (a .rows)) (a .sheets) (l .held) (l .left) (l .spare) (l .tight) (l .next) (l .inv) (has-turn f)
-    (case .0 .0) (stuck .1))
+    (f .serve .result) refl (case .0 .0) (case .1) (searched f) in
+    standing-stuck (now (a .rows)) (a .sheets) (l .held) (l .left) (l .spare) (l .tight) (l .next) (l .inv) (has-turn f)
+    (f .serve .last .1 .0) (case .0 .0) _ (stuck .0) (stuck .1) (omega arith)
 
 same-length : tie.Need-same-length Inv-loop μ-loop
 same-length c =
@@ -118,7 +133,7 @@ match-panes-spec =
     let l = c .before .before in
     let s = l .before .before .before .before .before .before .before .before in
     let i = l .loop in
-    servable (now (s .args .rows)) (s .args .sheets) (i .held) (i .left) (i .spare) (i .tight) (i .next) (i .inv) (omega arith))
+    servable (now (s .args .rows)) (s .args .sheets) (i .held) (i .left) (i .spare) (i .tight) (i .next) (i .inv) (omega arith) _)
     (λ c. search needs)
     (λ c. let below = is-glass c in search needs)
     is-glass
