@@ -43,10 +43,10 @@ pub(crate) fn check_answers(
     if !is_same_from(job.pane_count, before, answers) {
         return Outcome::Wrong(Rule::LaterEntries);
     }
-    if placed == job.pane_count {
-        Outcome::Full
+    if placed < job.pane_count {
+        Outcome::Short(job.pane_count - placed)
     } else {
-        Outcome::Short
+        Outcome::Full
     }
 }
 

@@ -1,6 +1,9 @@
 // The rules on the group. Where all panes are placed, its count is 0 and its list unchanged. Else its entries are the ids of a
-// short group: the stocks of all glasses that pass for one of its panes or more, each glass once, add up to less than its panes.
-// The ids rise.
+// short group: the stocks of all glasses that pass for one of its panes or more, each glass once, add up to less than its panes,
+// by as many as are left over. The ids rise.
+//
+// No way to give out the sheets serves more panes of such a group than it has sheets. So a group that lacks as many as are left over
+// shows that none serves more panes of the roof.
 use crate::job::Job;
 use crate::lists::LONGEST;
 use crate::lists::is_same_from;
@@ -32,6 +35,7 @@ pub(crate) fn check_full_group(
 // there twice.
 pub(crate) fn check_short_group(
     job: Job,
+    left_over: usize,
     count: usize,
     before: [u32; LONGEST],
     group: [u32; LONGEST],
@@ -47,8 +51,12 @@ pub(crate) fn check_short_group(
     let is_in = members.is_in;
     let passes = job.passes;
     let stocks = job.stocks;
-    if !is_short(passes, stocks, is_in, count) {
+    let lacking = sheets_lacking(passes, stocks, is_in, count);
+    if lacking == 0 {
         return Outcome::Wrong(Rule::GroupSheets);
+    }
+    if lacking != left_over {
+        return Outcome::Wrong(Rule::GroupShortage);
     }
     if !is_rising(count, group) {
         return Outcome::Wrong(Rule::GroupOrder);
@@ -56,7 +64,7 @@ pub(crate) fn check_short_group(
     if !is_same_from(count, before, group) {
         return Outcome::Wrong(Rule::LaterEntries);
     }
-    Outcome::Short
+    Outcome::Short(left_over)
 }
 
 // The panes whose ids are among the first `count` entries. No more entries are read than a file can have panes.
@@ -80,9 +88,14 @@ fn members_of(pane_ids: [u32; 256], count: usize, group: [u32; LONGEST]) -> Memb
     }
 }
 
-// Whether the glasses that pass for the members, each counted once, have fewer sheets than these are in number; `without` is how
-// many members are still without a sheet.
-fn is_short(passes: [bool; 16384], stocks: [u32; 64], is_in: [bool; 256], count: usize) -> bool {
+// By how many the members are more than the sheets of the glasses that pass for them, each glass counted once; 0 where they are not.
+// `without` is how many members are still without a sheet.
+fn sheets_lacking(
+    passes: [bool; 16384],
+    stocks: [u32; 64],
+    is_in: [bool; 256],
+    count: usize,
+) -> usize {
     let mut is_counted = [false; 64];
     let mut without = count;
     let mut i = 0;
@@ -91,14 +104,14 @@ fn is_short(passes: [bool; 16384], stocks: [u32; 64], is_in: [bool; 256], count:
         if is_in[i / 64] & passes[i] & !is_counted[glass] {
             let stock = wide(stocks[glass]);
             if without <= stock {
-                return false;
+                return 0;
             }
             without -= stock;
             is_counted[glass] = true;
         }
         i += 1;
     }
-    true
+    without
 }
 
 // Whether each of the first `count` entries is above the one before it.

@@ -1,9 +1,9 @@
 // Whether `place` keeps what document 01 says of it: "The placing", with the refusals of "What each cause gives"; and document 02,
-// 2026-04, of the order of the group.
+// 2026-04, of the order of the group, and 2026-05, of the number placed.
 //
-// Each argument is the name of a job file, with which the call is made several times. A line for each file says `NAME: full` or
-// `NAME: short`, whether every pane was placed; `NAME: refused NUMBER OFFSET`; or `NAME: wrong: RULE`, the first rule that was
-// found broken. The last line counts the files that were read, and those of them that were wrong.
+// Each argument is the name of a job file, with which the call is made several times. A line for each file says `NAME: full` where
+// every pane was placed; `NAME: short by NUMBER`, the panes left over; `NAME: refused NUMBER OFFSET`; or `NAME: wrong: RULE`, the first
+// rule that was found broken. The last line counts the files that were read, and those of them that were wrong.
 mod answers;
 mod calls;
 mod groups;

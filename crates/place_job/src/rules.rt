@@ -1,4 +1,4 @@
-// The rules that the result of a call keeps: document 01, "The placing", and document 02, 2026-04, on the order of the group.
+// The rules that the result of a call keeps: document 01, "The placing", and document 02, 2026-04, on the order of the group, and 2026-05.
 use crate::answers::check_answers;
 use crate::groups::check_full_group;
 use crate::groups::check_short_group;
@@ -7,12 +7,13 @@ use crate::lists::LONGEST;
 use causes::Cause;
 use row_placing::PlaceCounts;
 
-// What came of a file, or of a call with it: whether all panes were placed, a refusal, or the first rule that was found broken.
+// What came of a file, or of a call with it: all panes were placed, or so many were left over; a refusal; or the first rule that was
+// found broken.
 pub(crate) enum Outcome {
     // the file was not opened or not read
     Unread,
     Full,
-    Short,
+    Short(usize),
     Refused { cause: Cause, offset: usize },
     Wrong(Rule),
 }
@@ -31,6 +32,7 @@ pub(crate) enum Rule {
     EmptyGroup,
     GroupIds,
     GroupSheets,
+    GroupShortage,
     GroupOrder,
 }
 
@@ -48,7 +50,7 @@ pub(crate) fn check_result(
     let outcome = check_answers(job, counts.placed, before, answers);
     match outcome {
         Outcome::Full => check_full_group(counts.group, before, group),
-        Outcome::Short => check_short_group(job, counts.group, before, group),
+        Outcome::Short(left_over) => check_short_group(job, left_over, counts.group, before, group),
         _ => outcome,
     }
 }

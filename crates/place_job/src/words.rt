@@ -2,13 +2,18 @@
 use crate::rules::Outcome;
 use crate::rules::Rule;
 use job_tool::write;
+use job_tool::write_number;
 
 // Nothing of a file that was not opened or not read: its line is whole.
 pub(crate) fn write_outcome(outcome: Outcome) {
     match outcome {
         Outcome::Unread => {}
         Outcome::Full => write(b"full\n"),
-        Outcome::Short => write(b"short\n"),
+        Outcome::Short(left_over) => {
+            write(b"short by ");
+            write_number(left_over as u64);
+            write(b"\n");
+        }
         Outcome::Refused { cause, offset } => job_tool::write_refusal(cause, offset),
         Outcome::Wrong(rule) => write_rule(rule),
     }
@@ -41,6 +46,9 @@ fn write_list_rule(rule: Rule) {
         Rule::GroupIds => write(b"a group entry is not the id of a pane, or is there twice\n"),
         Rule::GroupSheets => write(
             b"the group is not short: its glasses have a sheet for each pane\n",
+        ),
+        Rule::GroupShortage => write(
+            b"the group lacks fewer or more sheets than panes are left over\n",
         ),
         _ => write(b"the ids of the group do not rise from first to last\n"),
     }

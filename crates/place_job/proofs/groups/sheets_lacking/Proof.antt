@@ -1,8 +1,8 @@
--- `is_short` is safe and ends: nothing has to hold from pair to pair, and the measure is how many are left.
+-- `sheets_lacking` is safe and ends: nothing has to hold from pair to pair, and the measure is how many are left.
 use borrow.Author.Needs.{needs}
 use Prim.Native.Nat.{_-_}
-use Rattle.place_job.proofs.groups.is_short.Statement.{statement}
-use Rattle.place_job.proofs.groups.is_short.Tie as tie
+use Rattle.place_job.proofs.groups.sheets_lacking.Statement.{statement}
+use Rattle.place_job.proofs.groups.sheets_lacking.Tie as tie
 
 abbrev Inv-loop : tie.InvT-loop
 Inv-loop count passes stocks is-in is-counted₀ without₀ i₀ is-counted without i = Unit
@@ -10,8 +10,8 @@ Inv-loop count passes stocks is-in is-counted₀ without₀ i₀ is-counted with
 abbrev μ-loop : tie.MeasureT-loop
 μ-loop count passes stocks is-in is-counted₀ without₀ i₀ is-counted without i = 16384 - i
 
-pub is-short-spec : {M : Type 1} → statement M
-is-short-spec =
+pub sheets-lacking-spec : {M : Type 1} → statement M
+sheets-lacking-spec =
     tie.close
     (tie.spec
     Inv-loop
