@@ -16,3 +16,8 @@ pub mod Glazing
 pub mod SomePanes
 -- What follows from the definitions, of any schedule.
 pub mod PlacingLaws
+-- How many sheets are missing: no fewer, and no more.
+pub mod MoreSheets
+pub mod Values
+pub mod NewSheets
+pub mod MissingSheets

@@ -1,6 +1,7 @@
 -- The glasses and panes of a schedule by their places, here called numbers: since no id stands twice, an id says which one it is.
---     glass-test    a test of ids is one of numbers
---     same-pane     one id, one pane
+--     same-number    one id, one number
+--     glass-test     a test of ids is one of numbers
+--     same-pane      one id, one pane
 use Prim.Native.Nat.{ℕ, _<_}
 use mathlib.Core.Path.{_≡_, refl, ap, sym}
 use mathlib.Core.Bool.{Bool, true, false}
@@ -14,7 +15,7 @@ use Rattle.row_placing.specs.Internal.Stated.{Known}
 
 -- Numbers below a bound whose ids differ where they do are told by their ids.
 module _ (ids : List ℕ) (apart : (i j : ℕ) → i < j → j < length ids → getD ids i 0 ≡ getD ids j 0 → ⊥) where
-  same-number : (i j : ℕ) → i < length ids → j < length ids → getD ids i 0 ≡ getD ids j 0 → i ≡ j
+  pub same-number : (i j : ℕ) → i < length ids → j < length ids → getD ids i 0 ≡ getD ids j 0 → i ≡ j
   same-number i j l k e = go (ltb i j) (ltb j i) refl refl
     where
       go : (a b : Bool) → ltb i j ≡ a → ltb j i ≡ b → i ≡ j

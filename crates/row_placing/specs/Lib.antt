@@ -5,6 +5,7 @@ pub mod ShortGroup
 pub mod Glazing
 -- What a call that places leaves in the lent lists.
 pub mod Glazed
--- What follows from the definitions.
+-- What follows from the definitions, and how many sheets are missing.
 pub mod Laws
+pub mod MissingSheets
 pub mod Internal
