@@ -5,3 +5,5 @@ pub mod Bits
 pub mod Schedules
 -- The promise of the call, by what the file says.
 pub mod Promises
+-- How many sheets are missing of a file.
+pub mod Shortages
