@@ -195,6 +195,14 @@ placing-laws s = record {
       omega (arith, group-bound s (full .ids) (full .placing) group (g .some-panes), full .every-pane, g .short);
   lacking-most = λ ids group placing panes. omega (arith, group-bound s ids placing group panes, at-most ids placing);
   left-over = λ ids group placing panes whole i l zero. left ids group placing panes whole i l zero (inGroup s group i) refl;
+  one-number = λ ids group placed g other-ids other-group other h.
+      omega (
+        arith,
+        g .placed-is,
+        h .placed-is,
+        g .most-placed other-ids (h .placing),
+        h .most-placed ids (g .placing),
+      );
 }
   where
     at-most : (ids : List ℕ) → Placing s ids → nonzero ids ≤ length (s .pane-ids)

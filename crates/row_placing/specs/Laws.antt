@@ -9,6 +9,7 @@ use Rattle.ids.specs.Ids.{among}
 use Rattle.row_placing.specs.Schedule.{Schedule}
 use Rattle.row_placing.specs.Placing.{nonzero, Placing, FullPlacing}
 use Rattle.row_placing.specs.ShortGroup.{PaneGroup, lacking, ShortGroup}
+use Rattle.row_placing.specs.Glazing.{Glazing}
 
 pub record PlacingLaws (s : Schedule) : Type 0 where
   -- a placing places at most every pane
@@ -22,3 +23,7 @@ pub record PlacingLaws (s : Schedule) : Type 0 where
   pub left-over :
       (ids group : List ℕ) → Placing s ids → PaneGroup s group → lacking s group ≡ length (s .pane-ids) - nonzero ids →
       (i : ℕ) → i < length (s .pane-ids) → getD ids i 0 ≡ 0 → among (getD (s .pane-ids) i 0) group ≡ true
+  -- the number placed is not open: whatever the placing gives, it is the same
+  pub one-number :
+      (ids group : List ℕ) (placed : ℕ) → Glazing s ids group placed →
+      (other-ids other-group : List ℕ) (other : ℕ) → Glazing s other-ids other-group other → placed ≡ other
