@@ -1,10 +1,13 @@
 """Writes the vectors of place_job: the job files in data/, their names in args and what is due of each in stdout.
 
-Run `python3 generate.py`. Each job is made so that a full placing of it exists, or a short group, and that is stated here from
-document 01 and document 02, 2026-01 to 2026-04. Nothing is written where placing.py, which finds the one or the other by the
-verdicts of judge_job's clauses.py, says otherwise, or where reader.py of check_job's vectors reads a file otherwise. Ribbons
-are panes with four edges that are more than three times as long as wide, along w or along h. House panes have a wind class and
-a zone. Where a job has only one short group, and that is stated here, the line that is due of it stands in the job's notes.
+Run `python3 generate.py`. Each job is made so that a full placing of it exists, or that so many panes are left over by any
+placing that serves the most, and that is stated here from document 01 and document 02, 2026-01 to 2026-05. Nothing is written
+where placing.py, which finds it by the verdicts of judge_job's clauses.py, says otherwise, or where reader.py of check_job's
+vectors reads a file otherwise. By how many the jobs named roof-*-short and runs-*-short are short is not known from how they
+are made, and was taken from placing.py: of the runs it finds the number by two ways, of the roofs by the flow alone. Ribbons are
+panes with four edges that are more than three times as long as wide, along w or along h. House panes have a wind class and a
+zone. Where a job has only one short group, or only one that is short by all panes that are left over, and that is stated here,
+the line that is due of it stands in the job's notes.
 """
 import pathlib
 import random
@@ -63,17 +66,29 @@ def rows_of(glasses, panes):
     return [[place for place, sheet in enumerate(glasses) if not clauses.verdict(it, sheet)] for it in panes]
 
 
-def hold(name, due, glasses, panes, chain=None, group=None):
-    """Compares what is stated of a job with what placing.py finds: full or short; and, if it is stated, how many links the
-    shortest chain has that gives a sheet to the first pane that first fit leaves with none, and the places in the file of the
-    only short group."""
+def line_of(left_over):
+    """What is due of a job of which so many panes are left over."""
+    return f"short by {left_over}" if left_over else "full"
+
+
+def hold(name, due, glasses, panes, chain=None, group=None, whole=None, under=None):
+    """Compares what is stated of a job with what placing.py finds: full or short, and by how many; and, if it is stated, how many
+    links the shortest chain has that gives a sheet to the first pane that first fit leaves with none; the places in the file of
+    the only short group, or of the only one that is short by all panes that are left over; and how many panes would be left
+    over by chains of fewer links than a number of them."""
     rack, roof = [it.stock for it in glasses], rows_of(glasses, panes)
-    if placing.decide(rack, roof) != due:
-        raise SystemExit(f"{name}: stated {due}, but placing.py finds it {placing.decide(rack, roof)}")
+    left_over, found = placing.shortage(rack, roof), placing.decide(rack, roof)
+    if due != line_of(left_over) or due.split()[0] != found:
+        raise SystemExit(f"{name}: stated {due}, but placing.py finds it {found}, and {left_over} left over")
     if chain is not None and placing.links(rack, roof) != chain:
         raise SystemExit(f"{name}: stated {chain} links, but placing.py has {placing.links(rack, roof)}")
     if group is not None and not placing.is_only_short_group(rack, roof, group):
         raise SystemExit(f"{name}: not the only short group by placing.py")
+    if whole is not None and not placing.is_only_whole_group(rack, roof, whole):
+        raise SystemExit(f"{name}: not the only group of the whole shortage by placing.py")
+    for count, stated in (under or {}).items():
+        if placing.left_by_chains(rack, roof, count - 1) != stated:
+            raise SystemExit(f"{name}: under {count} links, {placing.left_by_chains(rack, roof, count - 1)} are left over")
 
 
 def places_of(name, group, pane_ids):
@@ -83,13 +98,16 @@ def places_of(name, group, pane_ids):
     return [place for place, id in enumerate(pane_ids) if id in group]
 
 
-def job(name, due, glasses, panes, glass_ids=None, pane_ids=None, chain=None, group=None):
+def job(name, due, glasses, panes, glass_ids=None, pane_ids=None, chain=None, group=None, whole=None, under=None):
     """A job of which this is due. The ids are those from 501 and from 1 on, unless others are given. `group` has the ids of the
-    only short group, if that is stated, as they are to be listed."""
+    only short group, and `whole` of the only one that is short by all panes that are left over, if that is stated, as they are
+    to be listed."""
     glass_ids = glass_ids or range(501, 501 + len(glasses))
     pane_ids = pane_ids or range(1, 1 + len(panes))
-    hold(name, due, glasses, panes, chain, group and places_of(name, group, pane_ids))
-    notes = f"{name}\n" + (f"short {' '.join(map(str, group))}\n" if group else "")
+    places = [ids and places_of(name, ids, pane_ids) for ids in (group, whole)]
+    hold(name, due, glasses, panes, chain, *places, under)
+    listed = group or whole
+    notes = f"{name}\n" + (f"short {' '.join(map(str, listed))}\n" if listed else "")
     file = file_of(notes, lines(glass_ids, glasses), lines(pane_ids, panes))
     put(name, due, f"accepted {len(glasses)} {len(panes)}", file)
 
@@ -112,6 +130,9 @@ def runs(name, due, stocks, intervals, order=None, **more):
     meant = [[place for place, at in enumerate(order) if first <= at <= last] for first, last in intervals]
     if rows_of(glasses, panes) != meant:
         raise SystemExit(f"{name}: the panes do not suit the runs that were meant")
+    left_over = placing.shortage_of_runs(stocks, intervals)
+    if due != line_of(left_over):
+        raise SystemExit(f"{name}: stated {due}, but by the windows of placing.py {left_over} panes are left over")
     job(name, due, glasses, panes, **more)
 
 
@@ -131,7 +152,7 @@ def paper_jobs():
     job("paper-houses", "full", PAPER_RACK, by_class, (9, 7), (1, 2), chain=2)
     for name, roof in ("paper", panes), ("paper-houses", by_class):
         job(f"{name}-panes-reversed", "full", PAPER_RACK, roof[::-1], (9, 7), (2, 1))
-        job(f"{name}-one-sheet", "short", PAPER_RACK[:1], roof, (9,), (1, 2))
+        job(f"{name}-one-sheet", "short by 1", PAPER_RACK[:1], roof, (9,), (1, 2))
 
 
 def chains():
@@ -143,12 +164,12 @@ def chains():
     runs("chain-64-panes-reversed", "full", [1] * 64, intervals[::-1])
     runs("chain-64-to-and-fro", "full", [1] * 64, intervals, random.Random(7).sample(range(64), 64))
     # no sheet is left at the end of the chain
-    runs("chain-64-to-nothing", "short", [1] * 63 + [0], intervals)
-    runs("chain-64-to-a-taken-sheet", "short", [1] * 64, [(63, 63)] + intervals)
+    runs("chain-64-to-nothing", "short by 1", [1] * 63 + [0], intervals)
+    runs("chain-64-to-a-taken-sheet", "short by 1", [1] * 64, [(63, 63)] + intervals)
     # the chain forks at each of 32 sheets, and only the last of them may be left
     forks = [(at, min(at + 2, 31)) for at in range(31)] + [(0, 0)]
     runs("chain-with-forks", "full", [1] * 32, forks)
-    runs("chain-with-forks-to-nothing", "short", [1] * 31 + [0], forks)
+    runs("chain-with-forks-to-nothing", "short by 1", [1] * 31 + [0], forks)
 
 
 def first_fits():
@@ -168,17 +189,17 @@ def first_fits():
 
 
 def shortages():
-    runs("short-of-one", "short", [1], [(0, 0), (0, 0)])
-    runs("short-of-a-pane", "short", [0], [(0, 0)])
-    runs("short-of-all", "short", [0, 0, 0], [(0, 2), (1, 2), (2, 2), (0, 0)])
-    runs("short-twice", "short", [1, 2, 0, 1, 1], [(0, 1)] * 4 + [(3, 4)] * 3)
-    runs("short-between", "short", [9, 1, 1, 9], [(0, 0), (1, 2), (1, 2), (3, 3), (1, 2), (0, 3)])
-    runs("short-beside-plenty", "short", [2, 50], [(1, 1), (0, 0), (1, 1), (0, 0), (1, 1), (0, 0)])
+    runs("short-of-one", "short by 1", [1], [(0, 0), (0, 0)])
+    runs("short-of-a-pane", "short by 1", [0], [(0, 0)])
+    runs("short-of-all", "short by 4", [0, 0, 0], [(0, 2), (1, 2), (2, 2), (0, 0)])
+    runs("short-twice", "short by 2", [1, 2, 0, 1, 1], [(0, 1)] * 4 + [(3, 4)] * 3)
+    runs("short-between", "short by 1", [9, 1, 1, 9], [(0, 0), (1, 2), (1, 2), (3, 3), (1, 2), (0, 3)])
+    runs("short-beside-plenty", "short by 1", [2, 50], [(1, 1), (0, 0), (1, 1), (0, 0), (1, 1), (0, 0)])
     # a pane that no glass passes for, beside panes that are served
     none, served = pane(top=9000, w=3000, h=3000), [pane(w=300 + n, h=300) for n in range(5)]
-    job("no-glass-for-the-first", "short", [glass(9)], [none, *served])
-    job("no-glass-for-two", "short", [glass(2), glass(0), glass(3)], [served[0], none, *served[1:4], none, served[4]])
-    job("stock-of-no-use", "short", [glass(0), glass(999, w=100, h=100)], served)
+    job("no-glass-for-the-first", "short by 1", [glass(9)], [none, *served])
+    job("no-glass-for-two", "short by 2", [glass(2), glass(0), glass(3)], [served[0], none, *served[1:4], none, served[4]])
+    job("stock-of-no-use", "short by 5", [glass(0), glass(999, w=100, h=100)], served)
 
 
 def clauses_alone():
@@ -189,7 +210,7 @@ def clauses_alone():
         failing = [[number for number, fails in enumerate(clauses.CLAUSES, 1) if fails(it, sheet)] for it in panes]
         if failing != [[1], [2], [3], [4], []]:
             raise SystemExit(f"{name}: fails by {failing}")
-        job(name, "short", [sheet], panes)
+        job(name, "short by 4", [sheet], panes)
 
 
 def is_ribbon(it):
@@ -202,9 +223,9 @@ def shortened(it):
     return it._replace(w=min(it.w, longest), h=min(it.h, longest)) if is_ribbon(it) else it
 
 
-def short_by_ribbons(name, glasses, panes):
+def short_by_ribbons(name, due, glasses, panes):
     """A job that is short by its ribbons, and full once they are shortened."""
-    job(name, "short", glasses, panes)
+    job(name, due, glasses, panes)
     job(f"{name}-cut", "full", glasses, [shortened(it) for it in panes])
 
 
@@ -247,7 +268,7 @@ def ribbon_chains():
         raise SystemExit("ribbon-chain: the ribbons do not suit the sheets that were meant")
     job("ribbon-chain-5", "full", glasses, panes, chain=5)
     # no sheet is left at the end of the chain
-    job("ribbon-chain-5-to-nothing", "short", glasses[:4] + [glasses[4]._replace(stock=0)], panes)
+    job("ribbon-chain-5-to-nothing", "short by 1", glasses[:4] + [glasses[4]._replace(stock=0)], panes)
 
 
 def ribbon_columns():
@@ -258,25 +279,25 @@ def ribbon_columns():
     panes = [pane(w=250, h=751), pane(w=751, h=250), pane(w=251, h=753), pane(w=753, h=251)]
     job("ribbons-at-the-entry", "full", [thin._replace(stock=4)], panes)
     # a ribbon of 251 may have no sheet
-    short_by_ribbons("ribbon-above-the-entry-h-longer", [thin], [pane(w=251, h=754)])
-    short_by_ribbons("ribbon-above-the-entry-w-longer", [thin], [pane(w=754, h=251)])
+    short_by_ribbons("ribbon-above-the-entry-h-longer", "short by 1", [thin], [pane(w=251, h=754)])
+    short_by_ribbons("ribbon-above-the-entry-w-longer", "short by 1", [thin], [pane(w=754, h=251)])
     # two ribbons of 500 need the one sheet of 12 mm
     ribbons = [pane(w=500, h=2000), pane(w=2000, h=500)]
-    short_by_ribbons("ribbons-two-for-one-sheet", [thick, thin], ribbons)
+    short_by_ribbons("ribbons-two-for-one-sheet", "short by 1", [thick, thin], ribbons)
     # three need the two sheets of 12 mm; the panes beside them have 10 and 8 mm enough
     rack = [thin._replace(stock=5), thick._replace(stock=2), glass(5, kind=1, thick=8)]
     panes = [pane(w=900, h=1500), ribbons[0], pane(w=800, h=2400), ribbons[1], pane(w=300, h=300), pane(w=700, h=2101)]
-    short_by_ribbons("ribbons-short-beside-panes", rack, panes)
+    short_by_ribbons("ribbons-short-beside-panes", "short by 1", rack, panes)
     # with a third sheet of 12 mm each of these ribbons has one
     job("ribbons-served-beside-panes", "full", [rack[0], thick._replace(stock=3), rack[2]], panes)
     # a two-edge pane reads the same column: it and two ribbons need the two sheets of 12 mm
     panes = [pane(w=700, h=2101), pane(2, w=700, h=300), pane(w=2101, h=700)]
-    short_by_ribbons("ribbons-short-with-two-edges", rack, panes)
+    short_by_ribbons("ribbons-short-with-two-edges", "short by 1", rack, panes)
     # an awning: 12 mm of toughened glass spans 700 for ribbons, and 10 mm nothing
     awning = [pane(awning=1, w=700, h=2800), pane(awning=1, w=2101, h=700), pane(awning=1, w=600, h=600)]
-    short_by_ribbons("ribbons-under-an-awning", [glass(1, thick=12), glass(9, thick=10)], awning)
+    short_by_ribbons("ribbons-under-an-awning", "short by 1", [glass(1, thick=12), glass(9, thick=10)], awning)
     # a dash lets no ribbon pass: 8 mm of laminated annealed glass with two edges
-    short_by_ribbons("ribbon-by-a-dash", [glass(9, kind=1, thick=8)], [pane(), pane(w=1, h=4), pane(w=4, h=1)])
+    short_by_ribbons("ribbon-by-a-dash", "short by 2", [glass(9, kind=1, thick=8)], [pane(), pane(w=1, h=4), pane(w=4, h=1)])
 
 
 def ribbon_constants():
@@ -286,12 +307,12 @@ def ribbon_constants():
     job("ribbon-by-four-h-longer", "full", rack, [pane(w=200, h=1000), two_edges])
     job("ribbon-by-four-w-longer", "full", rack, [pane(w=1000, h=200), two_edges])
     # two ribbons may have the first glass alone, however many sheets there are of the second
-    job("ribbons-by-four-short", "short", [glass(two=1), glass(9, four=1)], [pane(w=200, h=1000), pane(w=1000, h=200)])
+    job("ribbons-by-four-short", "short by 1", [glass(two=1), glass(9, four=1)], [pane(w=200, h=1000), pane(w=1000, h=200)])
 
 
 def empty_parts():
     job("no-panes", "full", [glass(3), glass(0)], [])
-    job("no-glasses", "short", [], [pane(), pane(w=300), pane(h=300)])
+    job("no-glasses", "short by 3", [], [pane(), pane(w=300), pane(h=300)])
     put("no-lines", "full", "accepted 0 0", b"T 00000 00000\n")
     job("one-pane", "full", [glass()], [pane()])
 
@@ -299,30 +320,36 @@ def empty_parts():
 def largest():
     """256 panes, on one glass and on 64."""
     panes = [pane(w=200 + n, h=400) for n in range(256)]
-    for stock, due in (256, "full"), (255, "short"), (999, "full"), (0, "short"):
+    for stock, due in (256, "full"), (255, "short by 1"), (999, "full"), (0, "short by 256"):
         job(f"one-glass-of-{stock}", due, [glass(stock)], panes)
     glasses = [glass(4, w=2000 + n) for n in range(64)]
     job("all-suit-all", "full", glasses, panes)
-    job("all-suit-all-but-one-sheet", "short", glasses[:40] + [glass(3)] + glasses[41:], panes)
+    job("all-suit-all-but-one-sheet", "short by 1", glasses[:40] + [glass(3)] + glasses[41:], panes)
+
+
+def full_and_short_runs(seed):
+    """The stocks of a full job, those of a short one, and what else they have."""
+    dice = random.Random(seed)
+    given = [dice.randrange(64) for _ in range(256)]
+    intervals = [(max(at - dice.randrange(3), 0), min(at + dice.randrange(3), 63)) for at in given]
+    stocks, order = [given.count(at) for at in range(64)], dice.sample(range(64), 64)
+    rest = dict(intervals=intervals, order=order, **random_ids(dice, 64, 256))
+    # three sheets change places: their run lacks some, and others have them
+    full, less = [at for at in range(64) if stocks[at] >= 3], list(stocks)
+    for at in dice.sample(full, 6):
+        less[at] -= 3
+    for at in dice.sample(range(64), 6):
+        less[at] += 3
+    return stocks, less, rest
 
 
 def random_runs():
-    """64 glasses and 256 panes with short runs: with a sheet for each pane and none more; and short of one in a place, with
-    sheets enough in all."""
-    for seed in 1, 2:
-        dice = random.Random(seed)
-        given = [dice.randrange(64) for _ in range(256)]
-        intervals = [(max(at - dice.randrange(3), 0), min(at + dice.randrange(3), 63)) for at in given]
-        stocks, order = [given.count(at) for at in range(64)], dice.sample(range(64), 64)
-        ids = random_ids(dice, 64, 256)
-        runs(f"runs-{seed}", "full", stocks, intervals, order, **ids)
-        # three sheets change places: their run lacks some, and others have them
-        full = [at for at in range(64) if stocks[at] >= 3]
-        for at in dice.sample(full, 6):
-            stocks[at] -= 3
-        for at in dice.sample(range(64), 6):
-            stocks[at] += 3
-        runs(f"runs-{seed}-short", "short", stocks, intervals, order, **ids)
+    """64 glasses and 256 panes with short runs: with a sheet for each pane and none more; and short of some in places, with
+    sheets enough in all. By how many, placing.py told by the flow and by windows."""
+    for seed, due in (1, "short by 8"), (2, "short by 11"):
+        stocks, less, rest = full_and_short_runs(seed)
+        runs(f"runs-{seed}", "full", stocks, **rest)
+        runs(f"runs-{seed}-short", due, less, **rest)
 
 
 def random_roof(name, dice, glass_count, pane_count, most, sides, houses=False):
@@ -354,10 +381,11 @@ def random_ids(dice, glass_count, pane_count):
 
 
 def random_roofs():
-    """Roofs with ribbons, both with w longer and with h longer. The short roofs would be full if their ribbons were shortened."""
+    """Roofs with ribbons, both with w longer and with h longer. The short roofs would be full if their ribbons were shortened. By
+    how many they are short, the flow told."""
     for name, due, seed, glass_count, pane_count, most in (
-        ("roof-1", "full", 13, 24, 48, 4), ("roof-1-short", "short", 68, 24, 48, 4),
-        ("roof-2", "full", 5, 64, 256, 9), ("roof-2-short", "short", 87, 64, 256, 9),
+        ("roof-1", "full", 13, 24, 48, 4), ("roof-1-short", "short by 1", 68, 24, 48, 4),
+        ("roof-2", "full", 5, 64, 256, 9), ("roof-2-short", "short by 3", 87, 64, 256, 9),
     ):
         dice = random.Random(seed)
         glasses, panes = random_roof(name, dice, glass_count, pane_count, most, range(300, 1600, 50))
@@ -375,7 +403,7 @@ def ids():
         ("highest", (9999, 1, 9998, 2), (9999, 2, 9998, 1, 5000)),
     ):
         runs(f"ids-{name}", "full", stocks, full, glass_ids=glass_ids, pane_ids=pane_ids)
-        runs(f"ids-{name}-short", "short", stocks, short, glass_ids=glass_ids, pane_ids=pane_ids)
+        runs(f"ids-{name}-short", "short by 1", stocks, short, glass_ids=glass_ids, pane_ids=pane_ids)
 
 
 def refused_files():
@@ -408,12 +436,12 @@ def refused_files():
         put(name, f"refused {cause} {offset}", f"refused {cause} {offset}", file)
     # the ribbon is a third pane: two sheets do not go round, and three do
     roof = [pane(), pane(), pane(w=100, h=301)]
-    hold("ribbon-as-third-pane", "short", [glass(), glass()], roof)
-    put("ribbon-as-third-pane", "short", "accepted 2 3", trailer(body + ribbon, 0, behind))
+    hold("ribbon-as-third-pane", "short by 1", [glass(), glass()], roof)
+    put("ribbon-as-third-pane", "short by 1", "accepted 2 3", trailer(body + ribbon, 0, behind))
     job("ribbon-as-third-pane-on-three-sheets", "full", [glass(), glass(2)], roof)
     # so is a house pane
-    hold("house-as-third-pane", "short", [glass(), glass()], [pane(), pane(), house()])
-    put("house-as-third-pane", "short", "accepted 2 3", trailer(body + good_house, 0, behind))
+    hold("house-as-third-pane", "short by 1", [glass(), glass()], [pane(), pane(), house()])
+    put("house-as-third-pane", "short by 1", "accepted 2 3", trailer(body + good_house, 0, behind))
     job("house-as-third-pane-on-three-sheets", "full", [glass(), glass(2)], [pane(), pane(), house()])
 
 
@@ -427,13 +455,13 @@ def cover_shortages():
     panes = [pane(w=600, h=900), pane(w=900, h=600), pane(2, w=600, h=900), pane(2, w=600, h=900, top=9000)]
     rack = [glass(thick=thick, w=w, h=h) for thick, w, h in COVERING]
     job("covers", "full", rack, panes)
-    job("covers-sight-size", "short", [it._replace(w=600, h=900) for it in rack], panes)
+    job("covers-sight-size", "short by 4", [it._replace(w=600, h=900) for it in rack], panes)
     for place, it in enumerate(rack):
         for side, less in ("w", it._replace(w=it.w - 1)), ("h", it._replace(h=it.h - 1)):
-            job(f"covers-{it.thick}-{side}-lacks", "short", rack[:place] + [less] + rack[place + 1:], panes)
+            job(f"covers-{it.thick}-{side}-lacks", "short by 1", rack[:place] + [less] + rack[place + 1:], panes)
     # a sheet of 6 mm covers the pane and does not span it; one of 12 mm spans it, and lacks a millimetre to cover it
     apart = [glass(kind=1, thick=thick, w=917, h=1417) for thick in (6, 12)]
-    job("cover-or-span", "short", apart, [pane(w=900, h=1400)])
+    job("cover-or-span", "short by 1", apart, [pane(w=900, h=1400)])
     job("cover-and-span", "full", [it._replace(w=918, h=1418) for it in apart], [pane(w=900, h=1400)])
 
 
@@ -448,19 +476,19 @@ def cover_yields():
     job("cover-yield", "full", [thin, thick], [every, only_6], chain=2)
     job("cover-yield-twice", "full", [thin, middle, thick], [up_to_10, every, only_6], chain=3)
     # sheets enough, but one too few of 6 mm, or of 6 and 10 mm
-    job("cover-yield-short", "short", [thin, thick._replace(stock=2)], [every, only_6, only_6])
-    job("cover-yield-twice-short", "short", [thin, middle, thick._replace(stock=9)], [up_to_10, every, only_6, up_to_10])
+    job("cover-yield-short", "short by 1", [thin, thick._replace(stock=2)], [every, only_6, only_6])
+    job("cover-yield-twice-short", "short by 1", [thin, middle, thick._replace(stock=9)], [up_to_10, every, only_6, up_to_10])
 
 
 def cover_roofs():
-    """Roofs with many sides that a sheet of 1200 or 1800 just covers in one thickness or another. They are short, and full once
-    each sheet is larger by its edge covers."""
+    """Roofs with many sides that a sheet of 1200 or 1800 just covers in one thickness or another. They are short, by so many as
+    the flow told, and full once each sheet is larger by its edge covers."""
     for name, seed, glass_count, pane_count, most in ("roof-3", 63, 24, 48, 4), ("roof-4", 11, 64, 256, 9):
         dice = random.Random(seed)
         sides = (600, 900, 1182, 1184, 1188, 1782, 1784, 1788)
         glasses, panes = random_roof(name, dice, glass_count, pane_count, most, sides)
         ids = random_ids(dice, glass_count, pane_count)
-        job(f"{name}-short", "short", glasses, panes, **ids)
+        job(f"{name}-short", "short by 2", glasses, panes, **ids)
         covers = [2 * clauses.EDGE_COVER[it.thick] for it in glasses]
         larger = [it._replace(w=it.w + more, h=it.h + more) for it, more in zip(glasses, covers)]
         job(name, "full", larger, panes, **ids)
@@ -496,10 +524,12 @@ def numbers_as_pressures(it):
 
 
 def tell(name, due, glasses, panes, misreadings):
-    """Of a job of which this is due, the other would be if its house panes were misread in one of these ways."""
-    other = {"full": "short", "short": "full"}[due]
+    """A job of which full is due would be short, and one of which short is due full, if its house panes were misread in one of
+    these ways."""
     for misread in misreadings:
-        hold(f"{name}, {misread.__name__}", other, glasses, [misread(it) if is_house(it) else it for it in panes])
+        misread_panes = [misread(it) if is_house(it) else it for it in panes]
+        if placing.decide([it.stock for it in glasses], rows_of(glasses, misread_panes)) == due.split()[0]:
+            raise SystemExit(f"{name}: does not tell of {misread.__name__}")
 
 
 def houses(name, due, glasses, panes, misreadings=(), **more):
@@ -550,14 +580,15 @@ def every_class():
         for place, it in enumerate(roof):
             name = f"house-{direction}-{NAMES[it.wind - 1]}-zone-{it.zone}"
             less = rack[place]._replace(four=rack[place].four - 1)
-            job(name, "short", [less], [it])
-            tell(name, "short", [less], [it], [numbers_as_pressures])
+            job(name, "short by 1", [less], [it])
+            tell(name, "short by 1", [less], [it], [numbers_as_pressures])
             for misread in other_zone, class_above, class_below:
                 taken_for = places.get(misread(it)[6:], place)
                 if taken_for < place:
-                    tell(name, "short", [less], [it], [misread])
+                    tell(name, "short by 1", [less], [it], [misread])
                 if taken_for > place:
-                    hold(f"houses, {name}, {misread.__name__}", "short", rack, roof[:place] + [misread(it)] + roof[place + 1:])
+                    misread_roof = roof[:place] + [misread(it)] + roof[place + 1:]
+                    hold(f"houses, {name}, {misread.__name__}", "short by 1", rack, misread_roof)
 
 
 def house_chains():
@@ -571,7 +602,7 @@ def house_chains():
         job(f"mixed-chain-{direction}", "full", rack, mixed, chain=count)
         job(f"mixed-chain-{direction}-panes-reversed", "full", rack, mixed[::-1])
         # no sheet is left at the end of the chain
-        job(f"mixed-chain-{direction}-to-nothing", "short", rack[:-1] + [rack[-1]._replace(stock=0)], mixed)
+        job(f"mixed-chain-{direction}-to-nothing", "short by 1", rack[:-1] + [rack[-1]._replace(stock=0)], mixed)
 
 
 def house_classes():
@@ -579,7 +610,7 @@ def house_classes():
     P is 22 and 18 less than the wind up."""
     c2, n5, c4 = [house(4, 30, 0, 3000, 900, 1500, wind, zone) for wind, zone in ((8, 2), (5, 2), (10, 1))]
     houses("house-c2-beside-n5", "full", PAPER_RACK, [c2, n5], [class_above], chain=2)
-    houses("house-c4-beside-n5", "short", PAPER_RACK, [c4, n5], [class_below, numbers_as_pressures])
+    houses("house-c4-beside-n5", "short by 1", PAPER_RACK, [c4, n5], [class_below, numbers_as_pressures])
 
 
 def house_zones():
@@ -588,7 +619,7 @@ def house_zones():
     rack = [glass(w=1016, h=616, four=7637), glass(w=616, h=616, four=9582)]
     away, near = dict(wind=3, zone=1), dict(wind=3, zone=2)
     houses("long-pane-away-from-edges", "full", rack, [house(w=1000, h=600, **away), house(w=600, h=600, **near)], [other_zone])
-    houses("long-pane-near-edges", "short", rack, [house(w=600, h=1000, **near), house(w=600, h=600, **away)], [other_zone])
+    houses("long-pane-near-edges", "short by 1", rack, [house(w=600, h=1000, **near), house(w=600, h=600, **away)], [other_zone])
 
 
 def house_yields():
@@ -597,13 +628,14 @@ def house_yields():
     houses("house-yield", "full", [strong, weak], [pane(), c4], chain=2)
     houses("house-moves-over", "full", [strong, weak], [house(), pane(up=998)], chain=2)
     houses("house-yields-to-house", "full", [strong, weak], [house(), c4], chain=2)
-    houses("houses-two-for-one-sheet", "short", [strong, weak._replace(stock=9)], [c4, pane(), c4], [other_zone, class_below])
+    rack = [strong, weak._replace(stock=9)]
+    houses("houses-two-for-one-sheet", "short by 1", rack, [c4, pane(), c4], [other_zone, class_below])
     # a pane with the numbers of that class has P 77, and needs a constant of 1755
     tiny, numbers = glass(four=1755), pane(down=10, up=2)
     job("class-numbers-as-pressures", "full", [tiny], [numbers])
-    job("class-numbers-as-pressures-one-below", "short", [tiny._replace(four=1754)], [numbers])
+    job("class-numbers-as-pressures-one-below", "short by 1", [tiny._replace(four=1754)], [numbers])
     job("class-numbers-by-both-letters", "full", [strong, tiny], [numbers, c4], chain=2)
-    houses("class-numbers-by-both-letters-short", "short", [tiny._replace(stock=2)], [numbers, c4], [numbers_as_pressures])
+    houses("class-numbers-by-both-letters-short", "short by 1", [tiny._replace(stock=2)], [numbers, c4], [numbers_as_pressures])
 
 
 def house_shapes():
@@ -611,27 +643,28 @@ def house_shapes():
     thin = glass(kind=1, thick=10)
     ribbons = [house(w=250, h=751, wind=4, zone=2), house(w=751, h=250, wind=9, zone=1)]
     job("house-ribbons-at-the-entry", "full", [thin._replace(stock=2)], ribbons)
-    short_by_ribbons("house-ribbon-above-the-entry", [thin], [house(w=754, h=251, wind=4, zone=2)])
+    short_by_ribbons("house-ribbon-above-the-entry", "short by 1", [thin], [house(w=754, h=251, wind=4, zone=2)])
     rack = [glass(thick=thick, w=w, h=h) for thick, w, h in COVERING]
     panes = [house(w=600, h=900), pane(w=900, h=600), house(2, w=600, h=900, wind=6, zone=2), house(w=600, h=900, wind=10)]
     job("house-covers", "full", rack, panes)
-    job("house-covers-lack", "short", rack[:3] + [rack[3]._replace(h=917)], panes)
+    job("house-covers-lack", "short by 1", rack[:3] + [rack[3]._replace(h=917)], panes)
 
 
 def most_houses():
     """256 panes of both letters, on one glass."""
     panes = [pane(w=200 + n, h=400) if n % 2 else house(w=200 + n, h=400, wind=n % 5 * 2 + 1, zone=2) for n in range(256)]
     job("mixed-on-one-glass-of-256", "full", [glass(256)], panes)
-    job("mixed-on-one-glass-of-255", "short", [glass(255)], panes)
+    job("mixed-on-one-glass-of-255", "short by 1", [glass(255)], panes)
 
 
 def house_roofs():
-    """Roofs in which every other pane is a house pane, each with misreadings that it tells of."""
+    """Roofs in which every other pane is a house pane, each with misreadings that it tells of. By how many they are short, the
+    flow told."""
     for name, due, seed, glass_count, pane_count, most, misreadings in (
         ("roof-5", "full", 117, 24, 48, 4, [other_zone, class_above, class_below]),
-        ("roof-5-short", "short", 130, 24, 48, 4, [other_zone, class_below, numbers_as_pressures]),
+        ("roof-5-short", "short by 1", 130, 24, 48, 4, [other_zone, class_below, numbers_as_pressures]),
         ("roof-6", "full", 10, 64, 256, 9, [other_zone, class_above, class_below]),
-        ("roof-6-short", "short", 74, 64, 256, 9, [other_zone, numbers_as_pressures]),
+        ("roof-6-short", "short by 1", 74, 64, 256, 9, [other_zone, numbers_as_pressures]),
     ):
         dice = random.Random(seed)
         glasses, panes = random_roof(name, dice, glass_count, pane_count, most, range(300, 1600, 50), houses=True)
@@ -644,7 +677,7 @@ def house_roofs():
 def all_short(name, pane_ids, panes=None):
     """A job with one glass for all panes and one sheet too few: every smaller group has sheets enough."""
     panes = panes or [pane(w=200 + n, h=400) for n in range(len(pane_ids))]
-    job(name, "short", [glass(len(panes) - 1)], panes, pane_ids=pane_ids, group=sorted(pane_ids))
+    job(name, "short by 1", [glass(len(panes) - 1)], panes, pane_ids=pane_ids, group=sorted(pane_ids))
 
 
 def broken_chain(count, each=1):
@@ -666,9 +699,10 @@ def group_orders():
     # from the last pane, whose id is the highest, the search goes on by rising ids, or by no order
     stocks, intervals = broken_chain(8)
     rising = (3, 8, 90, 91, 400, 1234, 5678, 9876)
-    runs("group-ids-rise-along-a-chain", "short", stocks, intervals, pane_ids=rising, group=rising)
+    runs("group-ids-rise-along-a-chain", "short by 1", stocks, intervals, pane_ids=rising, group=rising)
     shuffled = (400, 3, 5678, 90, 1234, 91, 8, 9876)
-    runs("group-ids-mixed-along-a-chain", "short", stocks, intervals, (5, 2, 7, 0, 3, 6, 1, 4), pane_ids=shuffled, group=rising)
+    order = (5, 2, 7, 0, 3, 6, 1, 4)
+    runs("group-ids-mixed-along-a-chain", "short by 1", stocks, intervals, order, pane_ids=shuffled, group=rising)
 
 
 def group_blocks():
@@ -689,7 +723,7 @@ def groups_of_one():
     for id in 1, 7, 9999:
         for where, place in ("first", 0), ("middle", 2), ("last", 4):
             panes, pane_ids = others[:place] + [none] + others[place:], ids[:place] + [id] + ids[place:]
-            job(f"group-of-one-id-{id}-{where}", "short", [glass(5)], panes, pane_ids=pane_ids, group=[id])
+            job(f"group-of-one-id-{id}-{where}", "short by 1", [glass(5)], panes, pane_ids=pane_ids, group=[id])
 
 
 def ids_to_both_ends(dice, count):
@@ -700,7 +734,7 @@ def ids_to_both_ends(dice, count):
 def groups_of_256():
     """Groups of all panes of the largest roof: 256 panes on 255 sheets, of which every smaller group has enough."""
     spread = range(54, 10000, 39)
-    runs("group-of-256-ids-rise", "short", *broken_chain(8, 32), pane_ids=spread, group=spread)
+    runs("group-of-256-ids-rise", "short by 1", *broken_chain(8, 32), pane_ids=spread, group=spread)
     all_short("group-of-256-ids-fall", spread[::-1])
     all_short("group-of-256-ids-256-to-1", range(256, 0, -1))
     # 64 glasses, and 32 panes for each eight of them and the next, if there is one: n neighbouring runs of these eight have at
@@ -708,11 +742,11 @@ def groups_of_256():
     dice = random.Random(256)
     intervals = dice.sample([(at, min(at + 8, 63)) for at in range(0, 64, 8)] * 32, 256)
     order, pane_ids = dice.sample(range(64), 64), ids_to_both_ends(dice, 256)
-    runs("group-of-256-ids-shuffled", "short", [3] + [4] * 63, intervals, order, pane_ids=pane_ids, group=sorted(pane_ids))
+    runs("group-of-256-ids-shuffled", "short by 1", [3] + [4] * 63, intervals, order, pane_ids=pane_ids, group=sorted(pane_ids))
     # no job has a longer text: every id has four digits, and all panes but one have a glass
     panes, pane_ids = [pane(w=200 + n, h=400) for n in range(256)], dice.sample(range(1000, 10000), 256)
     rack = [glass(200), glass(55)]
-    job("group-of-256-longest-text", "short", rack, panes, (9999, 1000), pane_ids, group=sorted(pane_ids))
+    job("group-of-256-longest-text", "short by 1", rack, panes, (9999, 1000), pane_ids, group=sorted(pane_ids))
 
 
 def groups_between():
@@ -723,16 +757,16 @@ def groups_between():
         (51, 1, 2), (100, 0, 1),
     ]
     ids, intervals = [id for id, *_ in roof], [interval for _, *interval in roof]
-    runs("group-between", "short", [4, 3, 2, 4], intervals, (2, 1, 3, 0), pane_ids=ids, group=[11, 31, 51, 71, 91, 111])
+    runs("group-between", "short by 1", [4, 3, 2, 4], intervals, (2, 1, 3, 0), pane_ids=ids, group=[11, 31, 51, 71, 91, 111])
     # the ids of the group are the places of others in the file, and its places are ids of others
     ids, intervals = (7, 1, 8, 2, 3, 6, 4, 5), [(at, at) for at in (0, 1, 1, 0, 1, 1, 1, 0)]
-    runs("group-ids-as-places", "short", [2, 6], intervals, glass_ids=(2, 1), pane_ids=ids, group=[2, 5, 7])
+    runs("group-ids-as-places", "short by 1", [2, 6], intervals, glass_ids=(2, 1), pane_ids=ids, group=[2, 5, 7])
     # every other one of 256 ids
     spread, dice = range(54, 10000, 39), random.Random(128)
     kinds = [(0, 1), (2, 3), (0, 0), (1, 2), (1, 1), (3, 3), (0, 1), (2, 2)]
     roof = dice.sample([(id, kinds[place % 8]) for place, id in enumerate(spread)], 256)
     ids, intervals = [id for id, _ in roof], [interval for _, interval in roof]
-    runs("group-of-every-other-id", "short", [60, 67, 65, 64], intervals, pane_ids=ids, group=spread[::2])
+    runs("group-of-every-other-id", "short by 1", [60, 67, 65, 64], intervals, pane_ids=ids, group=spread[::2])
 
 
 def group_letters():
@@ -745,7 +779,7 @@ def group_letters():
         (50, house()), (70, c4),
     ]
     rack, ids, panes = [glass(4, four=6271), glass(6, four=6270)], [id for id, _ in roof], [it for _, it in roof]
-    job("group-of-strong-winds", "short", rack, panes, pane_ids=ids, group=[20, 40, 64, 70, 80])
+    job("group-of-strong-winds", "short by 1", rack, panes, pane_ids=ids, group=[20, 40, 64, 70, 80])
 
 
 def two_groups():
@@ -757,7 +791,7 @@ def two_groups():
     for group in map(set, placing.short_groups(stocks, [[at] for _, at in roof])):
         if not (group >= one or group >= other) or not group <= one | other:
             raise SystemExit(f"two-groups: {group} is short too")
-    runs("two-groups", "short", stocks, [(at, at) for _, at in roof], pane_ids=[id for id, _ in roof])
+    runs("two-groups", "short by 2", stocks, [(at, at) for _, at in roof], pane_ids=[id for id, _ in roof])
 
 
 def largest_group():
@@ -773,7 +807,7 @@ def largest_group():
     roof = dice.sample([*zip(inside, group, strict=True), *zip(outside, others, strict=True)], 256)
     intervals, pane_ids = [interval for interval, _ in roof], [id for _, id in roof]
     order, glass_ids = dice.sample(range(64), 64), dice.sample(range(1, 10000), 64)
-    runs("group-of-half-the-largest", "short", stocks, intervals, order, glass_ids=glass_ids, pane_ids=pane_ids,
+    runs("group-of-half-the-largest", "short by 1", stocks, intervals, order, glass_ids=glass_ids, pane_ids=pane_ids,
          group=sorted(group))
 
 
@@ -782,8 +816,194 @@ def other_groups():
     falling = (9999, 9998, 4000, 129, 128, 100, 2, 1)
     intervals = [(at, at + 1) for at in range(7)] + [(0, 0)]
     runs("ids-fall-full", "full", [1] * 8, intervals, pane_ids=falling, chain=8)
-    job("ids-fall-short-of-6", "short", [glass(1), glass(0), glass(1)], [pane()] * 8, pane_ids=falling)
-    job("ids-fall-no-glasses", "short", [], [pane()] * 8, pane_ids=falling)
+    job("ids-fall-short-of-6", "short by 6", [glass(1), glass(0), glass(1)], [pane()] * 8, pane_ids=falling)
+    job("ids-fall-no-glasses", "short by 8", [], [pane()] * 8, pane_ids=falling)
+
+
+# From here on, it matters that as many panes as possible are served (document 02, 2026-05), and by how many the listed group is
+# short.
+
+# a run of which none of these racks has a sheet: no glass passes for its panes
+NOWHERE = (64, 64)
+
+
+def short_in(name, count, stocks, intervals, short_runs, pane_ids=None, **more):
+    """A job that is short by so many, with the panes of these runs as the only group that shows it all."""
+    pane_ids = pane_ids or range(1, 1 + len(intervals))
+    whole = sorted(id for id, interval in zip(pane_ids, intervals, strict=True) if interval in short_runs)
+    runs(name, f"short by {count}", stocks, intervals, pane_ids=pane_ids, whole=whole, **more)
+
+
+def in_no_order(dice, intervals, **more):
+    """Panes with these runs, and their ids, in no order."""
+    return dict(intervals=dice.sample(intervals, len(intervals)), pane_ids=dice.sample(range(1, 10000), len(intervals)), **more)
+
+
+def loose_chain(first, count):
+    """Runs of a chain from the sheet at `first` on, with 2 sheets each: two panes for each sheet and the next, and one for the
+    first alone, to which the others yield by a chain of so many links. Every group has more sheets than panes."""
+    return [(at, at + 1) for at in range(first, first + count - 1) for _ in range(2)] + [(first, first)]
+
+
+def served_by_chains():
+    """A chain serves one pane more, beside three panes for one sheet, or beside two that no glass passes for. These come before
+    the chain, before the pane that needs it, or last."""
+    for count, wheres in (2, ("first",)), (5, ("first", "middle", "last")), (64, ("first",)):
+        chain, lost = loose_chain(0, count), [(count, count)] * 3 if count < 64 else [NOWHERE] * 2
+        for where in wheres:
+            before = {"first": 0, "middle": len(chain) - 1, "last": len(chain)}[where]
+            intervals, stocks = chain[:before] + lost + chain[before:], [2] * count + [1] * (count < 64)
+            short_in(f"most-by-chain-{count}-lost-{where}", 2, stocks, intervals, lost, under={count: 3})
+    # the last of these for a search that begins with the last glass
+    short_in("most-by-chain-64-from-the-last-glass", 2, stocks, intervals, lost, order=range(63, -1, -1))
+    # chains of 2, 5 and 8 links, and panes for one sheet before, between and behind them
+    lost, three = [(15, 15)], [loose_chain(0, 2), loose_chain(2, 5), loose_chain(7, 8)]
+    intervals = lost * 2 + three[0] + lost + three[1] + lost + three[2] + lost
+    short_in("most-by-three-chains", 4, [2] * 15 + [1], intervals, lost, pane_ids=range(9999, 9999 - 3 * len(intervals), -3),
+             under={2: 7, 5: 6, 8: 5})
+    # the last three of 256 panes need a chain of 64 links each, and one of every four has no glass
+    intervals = [interval for at in range(63) for interval in (*[(at, at + 1)] * 2, NOWHERE, (at, at + 1))]
+    runs("most-by-chains-of-64", "short by 64", [3] * 64, [*intervals, NOWHERE, *[(0, 0)] * 3], under={64: 67})
+
+
+def served_on_short_sheets():
+    """A chain serves more panes on the very sheets that are too few."""
+    # two panes for the first sheet of a chain with a sheet for each other pane
+    intervals = [(at, at + 1) for at in range(63)] + [(0, 0)] * 2
+    runs("most-by-chain-64-on-short-sheets", "short by 1", [1] * 64, intervals, under={64: 2})
+    # the roof of yield-three-times with two panes more: three of five are served, each by a chain
+    intervals = [(0, 1)] * 3 + [(0, 4)] * 3 + [(0, 0)] * 5
+    runs("most-yield-three-times", "short by 2", [3, 3, 1, 1, 1], intervals, under={3: 5})
+
+
+def served_past_shortages():
+    """Panes are left over early. Later ones are served by chains whose panes would also do with the sheets that lack."""
+    # the last pane suits a sheet that lacks and a sheet whose panes can yield
+    short_in("most-beside-a-shortage", 1, [1, 2, 2], [(0, 0)] * 2 + [(1, 2)] * 2 + [(0, 1)], [(0, 0)], under={2: 2})
+    # the pane that yields suits the sheet that lacks before the one that is left, or behind it
+    for name, order in ("ahead", (0, 1, 2)), ("behind", (0, 2, 1)):
+        intervals = [(1, 1)] * 2 + [(0, 2)] * 3 + [(0, 0)]
+        short_in(f"most-past-a-shortage-{name}", 1, [2, 1, 3], intervals, [(1, 1)], order=order, under={2: 2})
+    # a sheet lacks at each link but the last of a chain of 5
+    lost = [(at, at) for at in (1, 3, 5, 7)]
+    intervals = lost * 2 + [(at, at + 2) for at in (0, 2, 4, 6) for _ in range(2)] + [(0, 0)]
+    short_in("most-past-four-shortages", 4, [2, 1] * 4 + [2], intervals, lost, under={5: 5})
+
+
+def places_apart():
+    """Roofs that are short in places that share no glass: the group has the panes of all of them. Other panes have sheets to
+    spare, and are in none."""
+    dice = random.Random(25)
+    # by 1 and by 2; by 3, by 1 and by 2
+    two, three = [(0, 0)] * 2 + [(1, 1)] * 3 + [(2, 3)] * 4, [(0, 0)] * 4 + [(1, 1)] * 2 + [(2, 4)] * 6 + [(5, 5)] * 3
+    two_short, three_short = [(0, 0), (2, 3)], [(0, 0), (1, 1), (2, 4)]
+    short_in("places-two-in-turn", 3, [1, 4, 1, 1], two, two_short)
+    short_in("places-two-mixed", 3, [1, 4, 1, 1], short_runs=two_short, **in_no_order(dice, two, order=(3, 1, 0, 2)))
+    short_in("places-three-in-turn", 6, [1, 1, 1, 2, 1, 9], three, three_short)
+    # two chains that lack a sheet at their ends: without any one pane the others of its chain are served
+    stocks, chain = broken_chain(6)
+    other = [(first + 6, last + 6) for first, last in chain]
+    short_in("places-two-chains-in-turn", 2, stocks * 2, chain + other, chain + other)
+    by_turns = [interval for both in zip(chain, other) for interval in both]
+    short_in("places-two-chains-by-turns", 2, stocks * 2, by_turns, by_turns, pane_ids=range(12, 0, -1))
+    # each glass with two panes for its sheet; and every other one with five for two, the rest with one for two
+    singles = [(at, at) for at in range(64)]
+    short_in("places-64", 64, [1] * 64, short_runs=singles, **in_no_order(dice, singles * 2))
+    short_in("places-32-of-64", 96, [2] * 64, short_runs=singles[::2], **in_no_order(dice, singles + singles[::2] * 4))
+
+
+def places_with_nothing():
+    """One of the places is panes that no glass passes for, or a glass without sheets."""
+    one, served = [(0, 0)] * 3, [(1, 1)] * 2
+    for name, intervals in ("first", [NOWHERE] * 2 + one + served), ("last", served + one + [NOWHERE] * 2):
+        short_in(f"places-no-glass-{name}", 3, [2, 3], intervals, [(0, 0), NOWHERE])
+    short_in("places-no-sheet", 3, [2, 3, 0], [(2, 2), *one, *served, (2, 2)], [(0, 0), (2, 2)])
+    # both; two panes for a sheet; three for two glasses with a sheet each; a chain that lacks a sheet; and panes that are served
+    stocks, chain = broken_chain(5)
+    chain = [(first + 5, last + 5) for first, last in chain]
+    short_runs = [NOWHERE, (0, 0), (1, 1), (2, 3), *chain]
+    roof = in_no_order(random.Random(5), [NOWHERE, (0, 0), (1, 1), (2, 3), (4, 4)] * 2 + [(2, 3), *chain])
+    short_in("places-of-each-kind", 7, [0, 1, 1, 1, 9, *stocks], short_runs=short_runs, **roof)
+
+
+def joined_shortages():
+    """Two shortages that meet."""
+    # both may have the glass between them, and it counts once: short by 1 each, and by 3 together
+    both = [(0, 1), (1, 2)]
+    short_in("joined-by-a-glass", 3, [1, 1, 1], both * 3, both)
+    # that glass has sheets to spare, and the panes that do with it are served
+    ends = [(0, 0), (2, 2)]
+    short_in("joined-by-a-glass-to-spare", 2, [1, 5, 1], [*both, *ends, *both, *ends], ends)
+    # a pane may have the glasses of both, and is left over too
+    short_in("joined-by-a-pane", 3, [1, 0, 1], [*ends, (0, 2), *ends], [*ends, (0, 2)])
+    # a pane is left over early, and later ones seek through its glass in vain: each sheet has one pane too many
+    intervals = [(0, 0)] * 2 + [interval for at in range(1, 5) for interval in ((at, at), (at - 1, at))]
+    short_in("joined-by-searches", 5, [1] * 5, intervals, intervals)
+    # the same from the other end: each search reaches one glass more than the last
+    short_in("joined-by-searches-turned-round", 5, [1] * 5, intervals[::-1], intervals, pane_ids=range(40, 30, -1))
+
+
+def groups_with_more_beside():
+    """Panes with sheets to spare are not in the group: with them, it would be short by less, or not at all."""
+    short_in("beside-a-sheet-to-spare", 4, [1, 3], [(0, 0), (1, 1), (0, 0), (0, 0), (1, 1), (0, 0), (0, 0)], [(0, 0)])
+    # 999 sheets of glasses that one pane or none can use
+    short_in("beside-999-sheets", 3, [999, 2, 999], [(0, 0), *[(1, 1)] * 5], [(1, 1)], order=(2, 0, 1))
+    # glasses of the group would also do for panes that are not in it
+    inside, beside = [(1, 2)] * 4 + [(1, 1), (2, 2)], [(0, 1), (0, 1), (2, 3), (2, 3), (0, 3), (3, 3)]
+    by_turns = [interval for both in zip(inside, beside) for interval in both]
+    ids = (60, 7, 58, 9, 42, 11, 40, 80, 38, 82, 36, 84)
+    short_in("inside-and-beside", 2, [3, 2, 2, 4], by_turns, inside, pane_ids=ids, order=(1, 3, 0, 2))
+
+
+def short_by_most():
+    """The largest roofs, short by nearly all panes and in several places."""
+    panes, falling = [pane(w=200 + n, h=400) for n in range(256)], range(9999, 9743, -1)
+    job("one-sheet-for-256", "short by 255", [glass(1)], panes, pane_ids=falling, whole=falling[::-1])
+    job("64-sheets-for-256", "short by 192", [glass(w=2000 + n) for n in range(64)], panes, whole=range(1, 257))
+    dice, singles = random.Random(192), [(at, at) for at in range(64)]
+    short_in("64-sheets-for-four-each", 192, [1] * 64, short_runs=singles, **in_no_order(dice, singles * 4))
+    # eight glasses with 4 sheets each for 33 panes or more, and the next eight for 29 or 30, four times over. Of the 29 or 30,
+    # six may have the first two glasses alone and one the first and the last of those before, which first fit gives to others
+    intervals, short_runs = [], [(first, first + 7) for first in (0, 16, 32, 48)]
+    for first, short, served in (0, 33, 29), (16, 34, 29), (32, 35, 30), (48, 36, 30):
+        beside = [(first + 8, first + 15)] * (served - 7) + [(first + 7, first + 8)] + [(first + 8, first + 9)] * 6
+        intervals += [(first, first + 7)] * short + beside
+    short_in("largest-in-turn", 10, [4] * 64, intervals, short_runs, under={2: 38})
+    roof = in_no_order(dice, intervals, order=dice.sample(range(64), 64))
+    short_in("largest-mixed", 10, [4] * 64, short_runs=short_runs, **roof)
+
+
+def number_by_clauses():
+    """By how many a roof is short depends on its ribbons, its house panes or its edge covers. It is also short if they are
+    misread, by another number."""
+    # four ribbons need the sheet of 12 mm, and two other panes have three of 10 mm; shortened, all six may have any of the four
+    rack = [glass(3, kind=1, thick=10), glass(kind=1, thick=12)]
+    ribbons = [pane(w=500, h=2000), pane(w=2000, h=500), pane(w=700, h=2101), pane(w=2400, h=600)]
+    panes = [ribbons[0], pane(w=900, h=1500), *ribbons[1:3], pane(w=300, h=300), ribbons[3]]
+    job("number-by-ribbons", "short by 3", rack, panes, pane_ids=(6, 5, 4, 3, 2, 1), whole=[1, 3, 4, 6])
+    hold("number-by-ribbons, shortened", "short by 2", rack, [shortened(it) for it in panes])
+    # three panes of C4 in zone 2 need the one sheet that bears them, as in house_yields, and two others have three; in a weaker
+    # wind all five may have any of the four
+    rack, c4 = [glass(3, four=6270), glass(four=6271)], house(wind=10, zone=2)
+    panes = [house(), c4, c4, pane(), c4]
+    for name, roof in ("number-by-wind", panes), ("number-by-wind-by-pressures", [by_pressures(it) for it in panes]):
+        job(name, "short by 2", rack, roof, pane_ids=(20, 400, 9, 50, 31), whole=[9, 31, 400])
+    for misread in other_zone, class_below, numbers_as_pressures:
+        hold(f"number-by-wind, {misread.__name__}", "short by 1", rack, [misread(it) if is_house(it) else it for it in panes])
+    # five panes of 600 by 900 may have the sheet of 6 mm, and none of two that lack a millimetre of the cut size
+    rack = [glass(thick=6, w=612, h=912), glass(2, thick=12, w=617, h=918)]
+    panes = [pane(w=600, h=900), pane(w=900, h=600), pane(2, w=600, h=900), house(w=600, h=900), house(w=900, h=600)]
+    job("number-by-covers", "short by 4", rack, panes, whole=range(1, 6))
+    hold("number-by-covers, by a millimetre more", "short by 2", [rack[0], rack[1]._replace(w=618)], panes)
+
+
+def random_shortages():
+    """A roof with house panes, and runs that are short in four places. By how many, placing.py told."""
+    dice = random.Random(309)
+    glasses, panes = random_roof("roof-7-short", dice, 64, 256, 9, range(300, 1600, 50), houses=True)
+    job("roof-7-short", "short by 10", glasses, panes, **random_ids(dice, 64, 256))
+    _, less, rest = full_and_short_runs(29)
+    runs("runs-3-short", "short by 8", less, **rest)
 
 
 def write():
@@ -802,7 +1022,9 @@ for group in (
     paper_jobs, chains, first_fits, shortages, clauses_alone, empty_parts, largest, random_runs, random_roofs, ids, refused_files,
     ribbon_yields, ribbon_chains, ribbon_columns, ribbon_constants, cover_shortages, cover_yields, cover_roofs, every_class,
     house_chains, house_classes, house_zones, house_yields, house_shapes, most_houses, house_roofs, group_orders, group_blocks,
-    groups_of_one, groups_of_256, groups_between, group_letters, two_groups, largest_group, other_groups,
+    groups_of_one, groups_of_256, groups_between, group_letters, two_groups, largest_group, other_groups, served_by_chains,
+    served_on_short_sheets, served_past_shortages, places_apart, places_with_nothing, joined_shortages, groups_with_more_beside,
+    short_by_most, number_by_clauses, random_shortages,
 ):
     group()
 write()
