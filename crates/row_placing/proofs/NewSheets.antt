@@ -17,7 +17,7 @@ use Rattle.ranges.proofs.Sums.{sum-le, sum-add, sum-cong}
 use Rattle.ranges.proofs.Counts.{one-le, count-same, count-none, count-not, count-by}
 use Rattle.ranges.proofs.Any.{any-found}
 use Rattle.row_placing.specs.Schedule.{Schedule}
-use Rattle.row_placing.specs.Placing.{nonzero, PassingId, Placing, FullPlacing}
+use Rattle.row_placing.specs.Placing.{times, nonzero, PassingId, Placing, FullPlacing}
 use Rattle.row_placing.specs.MissingSheets.{withSheets, allSheets, EnoughWith, GlassIds}
 use Rattle.row_placing.proofs.Ids.{times-count, nonzero-count}
 use Rattle.row_placing.proofs.Numbers.{same-number}
@@ -120,27 +120,49 @@ module _
               passing = g .passing;
             }
 
-    -- Each pane that has the id of a glass had it before, or takes a new sheet of it.
-    one-new :
-        (j : ℕ) → j < length (s .glass-ids) → (i : ℕ) → i < length (s .pane-ids) →
-        one (eqb (getD answers i 0) (getD (s .glass-ids) j 0))
-        ≤ one (eqb (entry i) (getD (s .glass-ids) j 0)) + one (eqb (new i) j)
-    one-new j k i l = go (eqb (entry i) 0) refl
-      where
-        go :
-            (b : Bool) → eqb (entry i) 0 ≡ b →
-            one (eqb (getD answers i 0) (getD (s .glass-ids) j 0))
-            ≤ one (eqb (entry i) (getD (s .glass-ids) j 0)) + one (eqb (new i) j)
-        go true is =
-            let none-given = eqb-true (entry i) 0 is in
-            let here = new-glass i .within l none-given in
-            rw (answer-left i l none-given)
-            (omega (
-              arith,
-              one-le (eqb (getD (s .glass-ids) (new i) 0) (getD (s .glass-ids) j 0)) (eqb (new i) j)
-                  (λ same. eq-eqb (new i) j (same-number (s .glass-ids) (λ a b. distinct-at (s .glass-ids) a b (told .differ)) (new i) j here k (eqb-true _ _ same))),
-            ))
-        go false is = rw (answer-placed i l (eqb-false (entry i) 0 is)) (omega arith)
+    same-glass :
+        (g j : ℕ) → g < length (s .glass-ids) → j < length (s .glass-ids) → getD (s .glass-ids) g 0 ≡ getD (s .glass-ids) j 0 → g ≡ j
+    same-glass = same-number (s .glass-ids) (λ a b. distinct-at (s .glass-ids) a b (told .differ))
+
+    module _ (j : ℕ) (k : j < length (s .glass-ids)) where
+      abbrev id : ℕ
+      id = getD (s .glass-ids) j 0
+
+      -- Each pane that has the id of a glass had it before, or takes a new sheet of it.
+      one-new :
+          (i : ℕ) → i < length (s .pane-ids) → one (eqb (getD answers i 0) id) ≤ one (eqb (entry i) id) + one (eqb (new i) j)
+      one-new i l = go (eqb (entry i) 0) refl
+        where
+          go : (b : Bool) → eqb (entry i) 0 ≡ b → one (eqb (getD answers i 0) id) ≤ one (eqb (entry i) id) + one (eqb (new i) j)
+          go true is =
+              let none-given = eqb-true (entry i) 0 is in
+              let here = new-glass i .within l none-given in
+              let new-one =
+              one-le (eqb (getD (s .glass-ids) (new i) 0) id) (eqb (new i) j)
+              (λ same. eq-eqb (new i) j (same-glass (new i) j here k (eqb-true _ _ same))) in
+              rw (answer-left i l none-given) (omega (arith, new-one))
+          go false is = rw (answer-placed i l (eqb-false (entry i) 0 is)) (omega arith)
+
+      in-stock : times id answers ≤ getD sheets j 0
+      in-stock =
+          omega (
+            arith,
+            values-at sheetsAt (length (s .glass-ids)) j k,
+            times-count answers (length (s .pane-ids)) (values-long answerAt (length (s .pane-ids))) id,
+            times-count ids (length (s .pane-ids)) (placing .one-each) id,
+            placing .in-stock j k,
+            sum-add (λ i. one (eqb (entry i) id)) (λ i. one (eqb (new i) j)) (length (s .pane-ids)),
+            sum-le
+                (λ i. one (eqb (getD answers i 0) id))
+                (λ i. one (eqb (entry i) id) + one (eqb (new i) j))
+                (length (s .pane-ids))
+                one-new,
+          )
+
+    none-zero : (i : ℕ) → i < length (s .pane-ids) → eqb (getD answers i 0) 0 ≡ false
+    none-zero i l =
+        let g = passing-glass i l in
+        ne-eqb (getD answers i 0) 0 (λ e. omega (arith, told .not-zero (g .place) (g .within), g .is-id, e))
 
     full : FullPlacing bought
     full = record {
@@ -148,32 +170,14 @@ module _
       placing = record {
         one-each = values-long answerAt (length (s .pane-ids));
         passing = λ i l. inr (passing-glass i l);
-        in-stock =
-            λ j k.
-            omega (
-              arith,
-              values-at sheetsAt (length (s .glass-ids)) j k,
-              times-count answers (length (s .pane-ids)) (values-long answerAt (length (s .pane-ids))) (getD (s .glass-ids) j 0),
-              times-count ids (length (s .pane-ids)) (placing .one-each) (getD (s .glass-ids) j 0),
-              placing .in-stock j k,
-              sum-add
-                  (λ i. one (eqb (entry i) (getD (s .glass-ids) j 0)))
-                  (λ i. one (eqb (new i) j))
-                  (length (s .pane-ids)),
-              sum-le
-                  (λ i. one (eqb (getD answers i 0) (getD (s .glass-ids) j 0)))
-                  (λ i. one (eqb (entry i) (getD (s .glass-ids) j 0)) + one (eqb (new i) j))
-                  (length (s .pane-ids))
-                  (one-new j k),
-            );
+        in-stock = in-stock;
       };
       every-pane =
           omega (
             arith,
             nonzero-count answers (length (s .pane-ids)) (values-long answerAt (length (s .pane-ids))),
             count-not (λ i. eqb (getD answers i 0) 0) (length (s .pane-ids)),
-            count-none (λ i. eqb (getD answers i 0) 0) (length (s .pane-ids))
-                (λ i l. ne-eqb (getD answers i 0) 0 (λ none-given. let g = passing-glass i l in omega (arith, told .not-zero (g .place) (g .within), g .is-id, none-given))),
+            count-none (λ i. eqb (getD answers i 0) 0) (length (s .pane-ids)) none-zero,
           );
     }
 

@@ -158,18 +158,17 @@ module _ (s : Schedule) where
           go false false e here = omega arith
           go false true e here = rw (suited p l (eqb-false (entry p) 0 e) here) (omega arith)
 
-      by-share : sumTo share (length (s .pane-ids)) ≡ countTo isSuited (length (s .pane-ids)) + countTo (λ p. not (inGroup group p)) (length (s .pane-ids))
-      by-share = sum-add _ _ (length (s .pane-ids))
-
       module _ (panes : PaneGroup s group) where
         -- What the panes count together bounds the group.
-        bound : (placed : ℕ) → placed ≤ sumTo share (length (s .pane-ids)) → length group + placed ≤ sheetsFor s group + length (s .pane-ids)
+        bound :
+            (placed : ℕ) → placed ≤ sumTo share (length (s .pane-ids)) →
+            length group + placed ≤ sheetsFor s group + length (s .pane-ids)
         bound placed le =
             omega (
               arith,
               group-le group (panes .each-once) (panes .of-panes),
               count-not (inGroup group) (length (s .pane-ids)),
-              by-share,
+              sum-add (λ p. one (isSuited p)) (λ p. one (not (inGroup group p))) (length (s .pane-ids)),
               suited-le,
             )
 
@@ -214,12 +213,6 @@ placing-laws s = record {
         (b : Bool) → inGroup s group i ≡ b → inGroup s group i ≡ true
     left ids group placing panes whole i l zero true is = is
     left ids group placing panes whole i l zero false out =
-        absurd (
-        omega (
-          arith,
-          whole,
-          spare-bound s ids placing group panes i l zero out,
-          nonzero-count ids (length (s .pane-ids)) (placing .one-each),
-          count-less (λ p. not (eqb (getD ids p 0) 0)) (length (s .pane-ids)) i l (rw zero),
-        )
-        )
+        let placed = nonzero-count ids (length (s .pane-ids)) (placing .one-each) in
+        let fewer = count-less (λ p. not (eqb (getD ids p 0) 0)) (length (s .pane-ids)) i l (rw zero) in
+        absurd (omega (arith, whole, placed, fewer, spare-bound s ids placing group panes i l zero out))
