@@ -106,8 +106,8 @@ bordavina_verdict_result bordavina_verdict(const uint8_t *file, size_t file_leng
  * are enough: one more sheet of such a glass for each of those panes.
  *
  * Which passing glass a pane has, which panes are placed when not all can be, and which group is listed, may change from one
- * version to the next. A refusal leaves both lists untouched; each list needs an entry for every pane, or the call is refused
- * with BORDAVINA_LIST_TOO_SHORT. */
+ * version to the next; `placed` does not. A refusal leaves both lists untouched; each list needs an entry for every pane, or the
+ * call is refused with BORDAVINA_LIST_TOO_SHORT. */
 bordavina_place_result bordavina_place(const uint8_t *file, size_t file_length,
                                        uint32_t *answers, size_t answers_length,
                                        uint32_t *short_group, size_t short_group_length);

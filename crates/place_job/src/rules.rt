@@ -1,4 +1,5 @@
-// The rules that the result of a call keeps: document 01, "The placing", and document 02, 2026-04, on the order of the group, and 2026-05.
+// The rules that the result of a call keeps: document 01, "The placing", and document 02, 2026-04, on the order of the group, and
+// 2026-05, on the number placed.
 use crate::answers::check_answers;
 use crate::groups::check_full_group;
 use crate::groups::check_short_group;
