@@ -2,7 +2,7 @@
 -- pane left over, and no group lacks more than any placing leaves over: so no placing places more.
 --     rows-full     every pane is placed
 --     rows-short    a pane is left over, and the group is written
-use Prim.Native.Nat.{ℕ, _-_, _≤_, _<_}
+use Prim.Native.Nat.{ℕ, _-_, _≤_}
 use mathlib.Core.Path.{_≡_, refl, ap, sym, subst, _∙_}
 use mathlib.Core.Logic.{_⊎_, inl, inr}
 use mathlib.Core.Bool.{Bool, true, false}

@@ -1,9 +1,9 @@
 -- `match_panes` meets its contract. The loop's invariant: how the placing stands when the panes below `next` have had their
 -- turn.
 use borrow.Author.Needs.{needs}
-use Prim.Native.Nat.{ℕ, _+_, _-_, _<_}
+use Prim.Native.Nat.{ℕ, _-_, _<_}
 use native.Mathlib.Omega.{arith}
-use mathlib.Core.Path.{_≡_, refl, ap, sym, subst⁻¹, _∙_}
+use mathlib.Core.Path.{_≡_, refl, ap, sym, _∙_}
 use mathlib.Core.List.{List}
 use lib.ListN.{length, getD, getD-replicate}
 use denote.Ref.{now}
