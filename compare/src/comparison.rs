@@ -11,6 +11,8 @@ use crate::random::Random;
 use crate::reader;
 use crate::refusal::{Refusal, SHORT_LIST};
 use crate::roof::Roof;
+use crate::rules::check_flow;
+use crate::shortage::{first_fit, places};
 use crate::text::check_text;
 
 const ANSWER_MARK: u32 = 0xa000_0000;
@@ -28,6 +30,7 @@ pub fn compare<L: Library>(library: &L, file: &[u8], random: &mut Random) -> Out
         expected: reader::read(file).map(Roof::of),
     };
     let mut outcome = Outcome::default();
+    case.flow(&mut outcome);
     case.check(&mut outcome);
     case.known_ids(&mut outcome);
     case.other_ids(random, &mut outcome);
@@ -56,6 +59,21 @@ struct Case<'a, L> {
 }
 
 impl<L: Library> Case<'_, L> {
+    /// Holds the max flow, by which placings are measured, to the rules itself. Counts what a short roof
+    /// tries of them.
+    fn flow(&self, outcome: &mut Outcome) {
+        let Ok(roof) = &self.expected else {
+            return;
+        };
+        outcome.find_broken("max flow", check_flow(roof));
+        if roof.shortage() > 0 {
+            let tally = &mut outcome.tally;
+            tally.short_by_more += u64::from(roof.shortage() > 1);
+            tally.short_in_places += u64::from(places(roof) > 1);
+            tally.first_fit_fewer += u64::from(first_fit(roof) < roof.flow.most_served);
+        }
+    }
+
     fn check(&self, outcome: &mut Outcome) {
         let expected = match &self.expected {
             Ok(roof) => {

@@ -1,6 +1,6 @@
 //! What the comparison of one file found.
 
-use crate::rules::{Broken, GREATEST};
+use crate::rules::Broken;
 use crate::tally::Tally;
 
 /// Findings kept of one file. The others are only counted.
@@ -37,9 +37,6 @@ impl Outcome {
 
     pub fn find_broken(&mut self, call: &str, broken: Vec<Broken>) {
         for Broken { rule, came } in broken {
-            if rule == GREATEST {
-                self.tally.not_greatest = 1;
-            }
             self.find(call, rule, came);
         }
     }

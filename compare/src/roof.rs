@@ -1,9 +1,9 @@
 //! An accepted job with all its verdicts by document 01, "The four clauses", and document 02,
-//! 2026-01 to 2026-03, the greatest number of panes that can be served, and whether the ids of a
-//! group rise in file order (2026-04).
+//! 2026-01 to 2026-03, the greatest number of panes that can be served (2026-05), and whether the ids of
+//! a group rise in file order (2026-04).
 
 use crate::clauses::{Loads, PASSES};
-use crate::flow::most_served;
+use crate::flow::Flow;
 use crate::job::Job;
 
 #[derive(Clone, Debug)]
@@ -11,7 +11,7 @@ pub struct Roof {
     pub job: Job,
     /// The verdicts: for each pane, the first clause that each glass fails, or `PASSES`.
     pub clauses: Vec<Vec<usize>>,
-    pub most_served: usize,
+    pub flow: Flow,
 }
 
 impl Roof {
@@ -25,7 +25,7 @@ impl Roof {
         let passing: Vec<Vec<usize>> = clauses.iter().map(|row| passing(row).collect()).collect();
         let stocks: Vec<u16> = job.glasses().iter().map(|glass| glass.stock).collect();
         Roof {
-            most_served: most_served(&passing, &stocks),
+            flow: Flow::of(&passing, &stocks),
             clauses,
             job,
         }
@@ -34,6 +34,21 @@ impl Roof {
     /// The glasses that pass for a pane.
     pub fn passing(&self, pane: usize) -> impl Iterator<Item = usize> + '_ {
         passing(&self.clauses[pane])
+    }
+
+    /// How many panes cannot be served.
+    pub fn shortage(&self) -> usize {
+        self.job.panes().len() - self.flow.most_served
+    }
+
+    /// The sheets of all glasses that pass for at least one of these panes, each glass counted once.
+    pub fn sheets(&self, panes: &[usize]) -> usize {
+        let glasses = self.job.glasses().iter().enumerate();
+        let counted = glasses.filter(|&(glass, _)| {
+            let mut panes = panes.iter();
+            panes.any(|&pane| self.clauses[pane][glass] == PASSES)
+        });
+        counted.map(|(_, glass)| usize::from(glass.stock)).sum()
     }
 
     pub fn pane_of_id(&self, id: u32) -> Option<usize> {

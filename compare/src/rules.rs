@@ -1,5 +1,6 @@
 //! What holds of every placing: document 01, "The placing", and its demands 2 and 3, with the order of a
-//! short group by document 02, 2026-04.
+//! short group by document 02, 2026-04, and the greatest number of panes by 2026-05. A short group shows
+//! that no other way serves more, as `include/bordavina.h` promises.
 
 use crate::clauses::PASSES;
 use crate::roof::Roof;
@@ -15,6 +16,9 @@ pub const NO_GROUP: &str = "the group count is 0 where placed is wanted";
 pub const GROUP: &str = "the short group is non-empty and has panes of the file, each once";
 pub const SHORT: &str =
     "the sheets of the glasses that pass for the group are fewer than its panes";
+pub const WHOLE: &str =
+    "the panes of the short group less its sheets are exactly as many as cannot be served";
+pub const LEFT: &str = "every pane that has 0 is in the short group";
 pub const RISING: &str = "each id of the short group is above the one before it";
 
 /// A rule that does not hold, and where.
@@ -60,22 +64,46 @@ pub fn check_placing(roof: &Roof, placing: &Placing) -> Vec<Broken> {
     }
     check_answers(roof, answers, &mut broken);
 
-    let most = roof.most_served;
+    let most = roof.flow.most_served;
     if (placed == wanted) != (most == panes) {
         let came = format!("placed {placed} of {wanted} where {most} can be served");
         broken.push(Broken::new(ALL_SERVED, came));
-    } else if nonzero < most {
-        let came = format!("fewer than the greatest number: {nonzero} placed, {most} possible");
+    }
+    if placed.min(nonzero) < most {
+        let came = format!("placed {placed} with {nonzero} nonzero answers, {most} possible");
         broken.push(Broken::new(GREATEST, came));
     }
 
     if placed != wanted {
-        check_group(roof, group, &mut broken);
+        let members = members(roof, group, &mut broken);
+        if !members.is_empty() {
+            check_shortage(roof, &members, &mut broken);
+            check_left(roof, answers, &members, &mut broken);
+        }
         check_order(group, &mut broken);
     } else if !group.is_empty() {
         broken.push(Broken::new(NO_GROUP, format!("a group of {}", group.len())));
     }
     broken
+}
+
+/// The broken rules of the placing and the group of the max flow. If none is broken, the flow is right: its
+/// placing shows that so many panes can be served, and its group that no more can.
+pub fn check_flow(roof: &Roof) -> Vec<Broken> {
+    let panes = roof.job.panes();
+    let glass_id = |glass: usize| u32::from(roof.job.glasses()[glass].id);
+    let glasses = roof.flow.glass_of.iter();
+    let answers: Vec<u32> = glasses.map(|glass| glass.map_or(0, glass_id)).collect();
+    let members = roof.flow.group.iter();
+    let mut group: Vec<u32> = members.map(|&pane| panes[pane].id.into()).collect();
+    group.sort();
+    let placing = Placing {
+        answers: &answers,
+        placed: roof.flow.most_served,
+        wanted: panes.len(),
+        group: &group,
+    };
+    check_placing(roof, &placing)
 }
 
 fn check_answers(roof: &Roof, answers: &[u32], broken: &mut Vec<Broken>) {
@@ -121,41 +149,56 @@ fn check_answers(roof: &Roof, answers: &[u32], broken: &mut Vec<Broken>) {
     }
 }
 
-fn check_group(roof: &Roof, group: &[u32], broken: &mut Vec<Broken>) {
+/// The panes of a group, each once.
+fn members(roof: &Roof, group: &[u32], broken: &mut Vec<Broken>) -> Vec<usize> {
     if group.is_empty() {
         broken.push(Broken::new(GROUP, "an empty group".to_string()));
     }
-    let mut in_group = vec![false; roof.job.panes().len()];
-    let mut counted = vec![false; roof.job.glasses().len()];
+    let mut members = Vec::new();
     for &id in group {
-        let Some(pane) = roof.pane_of_id(id) else {
-            let came = format!("{id} in the group is no pane of the file");
-            broken.push(Broken::new(GROUP, came));
-            continue;
-        };
-        if in_group[pane] {
-            let came = format!("pane {id} is in the group twice");
-            broken.push(Broken::new(GROUP, came));
-        }
-        in_group[pane] = true;
-        for glass in roof.passing(pane) {
-            counted[glass] = true;
+        match roof.pane_of_id(id) {
+            None => {
+                let came = format!("{id} in the group is no pane of the file");
+                broken.push(Broken::new(GROUP, came));
+            }
+            Some(pane) if members.contains(&pane) => {
+                let came = format!("pane {id} is in the group twice");
+                broken.push(Broken::new(GROUP, came));
+            }
+            Some(pane) => members.push(pane),
         }
     }
-    let panes = in_group.iter().filter(|&&member| member).count();
-    let stocks = roof.job.glasses().iter().zip(&counted);
-    let sheets: usize = stocks
-        .filter(|(_, &counted)| counted)
-        .map(|(glass, _)| usize::from(glass.stock))
-        .sum();
-    if sheets >= panes && panes > 0 {
+    members
+}
+
+/// By how much a group is short. It is measured against the max flow, and not against the counts of the
+/// placing, which have rules of their own. No group is short by more than there are panes that cannot be
+/// served, for the others have a sheet each.
+fn check_shortage(roof: &Roof, members: &[usize], broken: &mut Vec<Broken>) {
+    let (panes, sheets) = (members.len(), roof.sheets(members));
+    if sheets >= panes {
         let came = format!("a group of {panes} panes with {sheets} sheets");
         broken.push(Broken::new(SHORT, came));
     }
+    let shortage = roof.shortage();
+    if panes != sheets + shortage {
+        let came =
+            format!("{shortage} cannot be served, a group of {panes} panes with {sheets} sheets");
+        broken.push(Broken::new(WHOLE, came));
+    }
 }
 
-/// Tells of the first id that is not above the one before it. Document 02, 2026-04, leaves open which
-/// group it is, so that order is a rule of its own. An id that is there twice breaks it as well.
+fn check_left(roof: &Roof, answers: &[u32], members: &[usize], broken: &mut Vec<Broken>) {
+    let left = (0..answers.len()).filter(|pane| answers[*pane] == 0 && !members.contains(pane));
+    let ids: Vec<u16> = left.map(|pane| roof.job.panes()[pane].id).collect();
+    if !ids.is_empty() {
+        let came = format!("panes that have 0 and are not in the group: {ids:?}");
+        broken.push(Broken::new(LEFT, came));
+    }
+}
+
+/// Tells of the first id that is not above the one before it. Often several groups are right, so that order
+/// is a rule of its own. An id that is there twice breaks it as well.
 fn check_order(group: &[u32], broken: &mut Vec<Broken>) {
     let mut neighbours = group.windows(2);
     if let Some(pair) = neighbours.find(|pair| pair[0] >= pair[1]) {

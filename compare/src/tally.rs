@@ -17,11 +17,16 @@ pub struct Tally {
     pub refused_verdicts: u64,
     pub full_placings: u64,
     pub short_placings: u64,
+    /// Short files in which more than one pane cannot be served. A smallest short group, which is short by 1,
+    /// is not enough there.
+    pub short_by_more: u64,
+    /// Short files whose group has parts that share no glass, so that one of them is not enough.
+    pub short_in_places: u64,
+    /// Short files in which first fit serves fewer panes than can be served.
+    pub first_fit_fewer: u64,
     /// Files with a short group whose ids do not rise in file order, so that listing it in file order is
     /// found.
     pub reordered_groups: u64,
-    /// Files with a placing of fewer panes than possible.
-    pub not_greatest: u64,
     pub programs_run: u64,
     pub slowest_program: Duration,
 }
@@ -35,8 +40,10 @@ impl Tally {
         self.refused_verdicts += other.refused_verdicts;
         self.full_placings += other.full_placings;
         self.short_placings += other.short_placings;
+        self.short_by_more += other.short_by_more;
+        self.short_in_places += other.short_in_places;
+        self.first_fit_fewer += other.first_fit_fewer;
         self.reordered_groups += other.reordered_groups;
-        self.not_greatest += other.not_greatest;
         self.programs_run += other.programs_run;
         self.slowest_program = self.slowest_program.max(other.slowest_program);
     }
@@ -65,8 +72,10 @@ impl Display for Tally {
         row("verdicts, refused", self.refused_verdicts)?;
         row("placings, full", self.full_placings)?;
         row("placings, short", self.short_placings)?;
+        row("short by more than 1", self.short_by_more)?;
+        row("short in separate places", self.short_in_places)?;
+        row("short, fewer by first fit", self.first_fit_fewer)?;
         row("groups not in file order", self.reordered_groups)?;
-        row("placings, fewer than possible", self.not_greatest)?;
         row("runs of canopy", self.programs_run)?;
         let slowest = self.slowest_program.as_secs_f64() * 1_000.0;
         writeln!(out, "{:<32}{slowest:>9.1} ms", "slowest run of canopy")

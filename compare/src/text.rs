@@ -1,5 +1,5 @@
 //! The text of a job: document 01, "The program `canopy`", and for the line `short` document 02, 2026-04.
-//! Since choices are open, a given text is read strictly and then held to the rules.
+//! Since choices are open, a given text is read strictly and then held to the rules, 2026-05 included.
 
 use crate::refusal::Refusal;
 use crate::roof::Roof;

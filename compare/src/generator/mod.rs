@@ -1,5 +1,5 @@
 //! Job files by seed, of seven kinds, for "The job file" and all that follows in document 01, and for
-//! document 02, 2026-01 to 2026-04.
+//! document 02, 2026-01 to 2026-05.
 
 mod boundaries;
 mod cut_sizes;

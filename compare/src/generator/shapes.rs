@@ -1,6 +1,7 @@
 //! Jobs that are hard for document 01, "The placing". The sheets rise in width as they fall in
 //! height, so that a pane's sides set any interval of glasses that pass for it.
 
+mod side_by_side;
 #[cfg(test)]
 mod tests;
 
@@ -11,8 +12,9 @@ use super::winds::Winds;
 use crate::clauses::cut_size;
 use crate::job::{Glass, Pane, Wind, MOST_PANES};
 use crate::random::Random;
+use side_by_side::side_by_side;
 
-/// A pane's glasses, first and last.
+/// A pane's glasses, first and last. Where the last is before the first, no glass passes.
 type Interval = (usize, usize);
 
 /// Widths of the widest pane that the first sheet covers, in mm. With 400 all panes are ribbons, and
@@ -28,13 +30,14 @@ const PRESSURES: Wind = Wind::Pressures { down: 60, up: 95 };
 pub fn plan(random: &mut Random) -> Plan {
     let (glasses, panes) = sizes(random);
     let (glasses, panes) = (glasses.max(2), panes.max(2));
-    let mut shape = match random.below(6) {
+    let mut shape = match random.below(8) {
         0 => chain(glasses, random),
         1 => nested(glasses, panes, random),
         2 => intervals(glasses, panes, random),
         3 => shortage(glasses, panes, random),
         4 => only_group(random.draw(2..=6), few_or_many(random), random),
-        _ => tight(glasses, panes, random),
+        5 => tight(glasses, panes, random),
+        _ => side_by_side(random),
     };
     if random.one_in(2) {
         random.shuffle(&mut shape.intervals);
@@ -45,6 +48,7 @@ pub fn plan(random: &mut Random) -> Plan {
     shape.plan(random)
 }
 
+#[derive(Default)]
 struct Shape {
     stocks: Vec<u16>,
     intervals: Vec<Interval>,
@@ -179,10 +183,7 @@ fn only_group(glasses: usize, panes: usize, random: &mut Random) -> Shape {
     let some = random.draw(1..=panes);
     let group = random.pick(&[1, panes, some, some]);
     let first_glasses = random.draw(1..=glasses - 1);
-    let mut stocks = vec![0; first_glasses];
-    for _ in 1..group {
-        stocks[random.below(first_glasses)] += 1;
-    }
+    let mut stocks = spread(group - 1, first_glasses, random);
     stocks.resize(glasses, 999);
     let mut intervals = vec![(0, first_glasses - 1); group];
     intervals.extend((group..panes).map(|_| {
@@ -209,6 +210,15 @@ fn tight(glasses: usize, panes: usize, random: &mut Random) -> Shape {
         stocks[glass] -= stocks[glass].min(1);
     }
     Shape { stocks, intervals }
+}
+
+/// Stocks of so many sheets in all.
+fn spread(sheets: usize, glasses: usize, random: &mut Random) -> Vec<u16> {
+    let mut stocks = vec![0; glasses];
+    for _ in 0..sheets {
+        stocks[random.below(glasses)] += 1;
+    }
+    stocks
 }
 
 fn any_interval(glasses: usize, random: &mut Random) -> Interval {

@@ -215,5 +215,5 @@ fn a_job_of_cut_sizes() {
         assert_eq!(verdict(CUT_JOB, pane, 7), Ok(FAILS_SIZE));
     }
     let job = read(CUT_JOB).expect("an accepted file");
-    assert_eq!(Roof::of(job).most_served, 1);
+    assert_eq!(Roof::of(job).flow.most_served, 1);
 }

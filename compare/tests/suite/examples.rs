@@ -136,7 +136,7 @@ fn g_uniform_load() {
 fn h_trailer_alone() {
     let job = read(b"T 00000 00000\n").unwrap();
     assert_eq!((job.glasses().len(), job.panes().len()), (0, 0));
-    assert_eq!(Roof::of(job).most_served, 0);
+    assert_eq!(Roof::of(job).flow.most_served, 0);
 }
 
 #[test]
@@ -148,7 +148,7 @@ fn i_thirteen_bytes() {
 fn j_the_job_of_the_program() {
     let job = read(EXAMPLE_J).unwrap();
     assert_eq!((job.glasses().len(), job.panes().len()), (2, 2));
-    assert_eq!(Roof::of(job).most_served, 2);
+    assert_eq!(Roof::of(job).flow.most_served, 2);
     assert_eq!(verdict(EXAMPLE_J, 1, 9), Ok(PASSES));
     assert_eq!(verdict(EXAMPLE_J, 1, 7), Ok(PASSES));
     assert_eq!(verdict(EXAMPLE_J, 2, 9), Ok(PASSES));

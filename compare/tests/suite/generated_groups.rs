@@ -1,7 +1,7 @@
 //! That the generator draws ids by which the order of a short group shows (document 02, 2026-04), and
 //! groups of one pane, of some and of all.
 
-use crate::groups::{narrowest, short_files, widest, ShortFile};
+use crate::groups::{largest, short_files, smallest, ShortFile};
 use crate::pairs::not_few;
 use compare::generator::Kind;
 use compare::job::LARGEST_ID;
@@ -11,7 +11,7 @@ type Case = (&'static str, fn(&ShortFile) -> bool);
 
 /// Each case comes up, whichever group is listed.
 fn each_comes_up(cases: &[Case]) {
-    for choice in [widest, narrowest] {
+    for choice in [smallest, largest] {
         let files = short_files(choice);
         for (name, holds) in cases {
             not_few(name, files.iter().filter(|file| holds(file)).count());
@@ -19,11 +19,11 @@ fn each_comes_up(cases: &[Case]) {
     }
 }
 
-/// In more than half of the short files, plausible or hard, the ids of the widest group do not rise in
-/// file order, and in some they do.
+/// In more than half of the short files, plausible or hard, the ids of the smallest group do not rise
+/// in file order, and in some they do.
 #[test]
 fn mostly_not_in_file_order() {
-    let files = short_files(widest);
+    let files = short_files(smallest);
     for kind in [Kind::Honest, Kind::Hard] {
         let short: Vec<&ShortFile> = files.iter().filter(|file| file.kind == kind).collect();
         let rising = short.iter().filter(|file| file.rises_in_file_order());

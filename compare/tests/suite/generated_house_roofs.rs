@@ -64,7 +64,7 @@ fn full_and_short_placings() {
 }
 
 fn is_full(roof: &Roof) -> bool {
-    roof.most_served == roof.job.panes().len()
+    roof.flow.most_served == roof.job.panes().len()
 }
 
 #[test]

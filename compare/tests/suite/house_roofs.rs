@@ -202,7 +202,7 @@ fn example_j_by_class() {
         assert_eq!(verdict(by_class.as_bytes(), pane, glass), expected);
     }
     let job = read(by_class.as_bytes()).expect("an accepted file");
-    assert_eq!(Roof::of(job).most_served, 2);
+    assert_eq!(Roof::of(job).flow.most_served, 2);
 }
 
 #[test]
@@ -214,5 +214,5 @@ fn a_job_of_both_letters() {
     let job = read(HOUSE_JOB).expect("an accepted file");
     assert_eq!(job.panes()[0].wind, Wind::Pressures { down: 60, up: 95 });
     assert_eq!(job.panes()[1].wind, class(5, 2));
-    assert_eq!(Roof::of(job).most_served, 2);
+    assert_eq!(Roof::of(job).flow.most_served, 2);
 }

@@ -69,10 +69,34 @@ P 1 4 10 0 3000 500 1000 60 95
 T 00000 00033
 ";
 
-/// Without glasses, either pane is a short group, and so are both.
+/// Without glasses, either pane is a short group, but only both show the whole shortage.
 pub const BARE_JOB: &[u8] = b"P 9999 4 10 0 3000 500 1000 60 95
 P 1 4 10 0 3000 500 1000 60 95
 T 00000 00000
+";
+
+/// Short by 2, in two places that share no glass: only glass 9, with one sheet, passes for panes 3 and 4,
+/// and only glass 7, with one sheet, for panes 6 and 5. Pane 1 passes with these and with glass 8. No other
+/// group than 3, 4, 5 and 6 shows the whole shortage.
+pub const TWO_PLACES_JOB: &[u8] = b"G 9 1 12 600 1100 21304 23857 1
+G 7 1 10 2400 3600 17976 20130 1
+G 8 1 12 300 400 21304 23857 2
+P 1 4 30 0 3000 200 300 60 95
+P 3 4 10 0 3000 500 1000 60 95
+P 4 4 10 0 3000 500 1000 60 95
+P 6 4 30 0 3000 900 1500 60 95
+P 5 4 30 0 3000 900 1500 60 95
+T 00000 00096
+";
+
+/// Example (j), and pane 8, for which no glass passes. The others take all sheets, so that more than one
+/// group shows the shortage.
+pub const BARE_PANE_JOB: &[u8] = b"G 9 1 12 2400 3600 21304 23857 1
+G 7 1 10 2400 3600 17976 20130 1
+P 1 4 30 0 3000 900 1500 60 95
+P 2 4 10 0 3000 500 1000 60 95
+P 8 4 30 0 3000 5000 5000 60 95
+T 00000 00066
 ";
 
 /// A file of these parts, without notes.

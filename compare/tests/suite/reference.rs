@@ -1,10 +1,10 @@
 //! A right library made of the second implementation, for the tests to alter. It places by a
-//! simple search for moves, so that its counts also check the max flow. Then it sorts the group by id.
+//! simple search for moves, so that its counts and groups also check the max flow. Then it sorts the group
+//! by id.
 
 use compare::bordavina::{CheckResult, PlaceResult, VerdictResult, TEXT_SIZE};
 use compare::calls::Library;
 use compare::clauses;
-use compare::job::MOST_PANES;
 use compare::reader::read;
 use compare::refusal::{Refusal, SHORT_LIST};
 use compare::roof::Roof;
@@ -29,56 +29,102 @@ impl Library for Reference {
     }
 
     fn place(&self, file: &[u8], answers: &mut [u32], short_group: &mut [u32]) -> PlaceResult {
-        let roof = match read(file) {
-            Ok(job) => Roof::of(job),
-            Err(refusal) => return refusal.into(),
-        };
-        let panes = roof.job.panes();
-        if answers.len().min(short_group.len()) < panes.len() {
-            return Refusal::new(SHORT_LIST, 0).into();
-        }
-        let mut search = Search::new(&roof);
-        let mut group = Vec::new();
-        for pane in 0..panes.len() {
-            search.seen.fill(false);
-            if !search.serve(pane) {
-                group = search.group_of(pane);
-            }
-        }
-        for (entry, glass) in answers.iter_mut().zip(&search.glass_of) {
-            *entry = glass.map_or(0, |glass| roof.job.glasses()[glass].id.into());
-        }
-        let mut group: Vec<u32> = group.iter().map(|&pane| panes[pane].id.into()).collect();
-        group.sort();
-        short_group[..group.len()].copy_from_slice(&group);
-        PlaceResult {
-            wanted: panes.len(),
-            placed: search.glass_of.iter().flatten().count(),
-            group: group.len(),
-            ..PlaceResult::default()
-        }
+        place_by(placed, file, answers, short_group)
     }
 
     fn report(&self, file: &[u8], text: &mut [u8; TEXT_SIZE]) -> usize {
-        let mut answers = [0; MOST_PANES];
-        let mut group = [0; MOST_PANES];
-        let answer = self.place(file, &mut answers, &mut group);
-        let mut report = String::new();
-        if answer.number != 0 {
-            report += &format!("refused {} {}\n", answer.number, answer.offset);
-        } else {
-            let job = read(file).expect("an accepted file");
-            for (pane, glass) in job.panes().iter().zip(answers) {
-                report += &format!("{} {glass}\n", pane.id);
-            }
-            report += &format!("{} {}\n", answer.placed, answer.wanted);
-            if answer.placed != answer.wanted {
-                let ids = group[..answer.group].iter().map(|id| format!(" {id}"));
-                report += &format!("short{}\n", ids.collect::<String>());
-            }
+        report_by(placed, file, text)
+    }
+}
+
+/// A placing with its group, as both are listed.
+pub struct Placed {
+    pub answers: Vec<u32>,
+    pub group: Vec<u32>,
+}
+
+/// The call `place` of a library that places in this way.
+pub fn place_by(
+    place: impl Fn(&Roof) -> Placed,
+    file: &[u8],
+    answers: &mut [u32],
+    short_group: &mut [u32],
+) -> PlaceResult {
+    let roof = match read(file) {
+        Ok(job) => Roof::of(job),
+        Err(refusal) => return refusal.into(),
+    };
+    if answers.len().min(short_group.len()) < roof.job.panes().len() {
+        return Refusal::new(SHORT_LIST, 0).into();
+    }
+    let placed = place(&roof);
+    answers[..placed.answers.len()].copy_from_slice(&placed.answers);
+    short_group[..placed.group.len()].copy_from_slice(&placed.group);
+    PlaceResult {
+        wanted: placed.answers.len(),
+        placed: placed.count(),
+        group: placed.group.len(),
+        ..PlaceResult::default()
+    }
+}
+
+/// The call `report` of a library that places in this way.
+pub fn report_by(
+    place: impl Fn(&Roof) -> Placed,
+    file: &[u8],
+    text: &mut [u8; TEXT_SIZE],
+) -> usize {
+    let report = match read(file) {
+        Ok(job) => {
+            let roof = Roof::of(job);
+            place(&roof).text(&roof)
         }
-        text[..report.len()].copy_from_slice(report.as_bytes());
-        report.len()
+        Err(Refusal { number, offset }) => format!("refused {number} {offset}\n"),
+    };
+    text[..report.len()].copy_from_slice(report.as_bytes());
+    report.len()
+}
+
+impl Placed {
+    /// How many panes have a glass.
+    pub fn count(&self) -> usize {
+        self.answers.iter().filter(|&&answer| answer != 0).count()
+    }
+
+    pub fn text(&self, roof: &Roof) -> String {
+        let mut text = String::new();
+        for (pane, glass) in roof.job.panes().iter().zip(&self.answers) {
+            text += &format!("{} {glass}\n", pane.id);
+        }
+        text += &format!("{} {}\n", self.count(), self.answers.len());
+        if self.count() != self.answers.len() {
+            let ids = self.group.iter().map(|id| format!(" {id}"));
+            text += &format!("short{}\n", ids.collect::<String>());
+        }
+        text
+    }
+}
+
+/// A right placing. The group has every pane that cannot be served, and all that hold a glass seen on
+/// behalf of one of them.
+pub fn placed(roof: &Roof) -> Placed {
+    let panes = roof.job.panes();
+    let mut search = Search::new(roof);
+    let mut group = Vec::new();
+    for pane in 0..panes.len() {
+        search.seen.fill(false);
+        if !search.serve(pane) {
+            group.extend(search.group_of(pane));
+        }
+    }
+    let glass_id = |glass: usize| u32::from(roof.job.glasses()[glass].id);
+    let glasses = search.glass_of.iter();
+    let mut group: Vec<u32> = group.iter().map(|&pane| panes[pane].id.into()).collect();
+    group.sort();
+    group.dedup();
+    Placed {
+        answers: glasses.map(|glass| glass.map_or(0, glass_id)).collect(),
+        group,
     }
 }
 

@@ -225,5 +225,5 @@ fn a_job_of_ribbons() {
     assert_eq!(verdict(RIBBON_JOB, 1, 9), Ok(PASSES));
     assert_eq!(verdict(RIBBON_JOB, 1, 7), Ok(FAILS_POINT_LOAD));
     let job = read(RIBBON_JOB).expect("an accepted file");
-    assert_eq!(Roof::of(job).most_served, 2);
+    assert_eq!(Roof::of(job).flow.most_served, 2);
 }

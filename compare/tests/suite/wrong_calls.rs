@@ -1,7 +1,8 @@
 //! A library with wrong answers, each of which the comparison of a file has to find.
 
 use crate::jobs::{
-    BARE_JOB, CUT_JOB, EXAMPLE_J, FALLING_JOB, HOUSE_JOB, RIBBON_JOB, SHORT_JOB, UNSORTED_JOB,
+    BARE_JOB, BARE_PANE_JOB, CUT_JOB, EXAMPLE_J, FALLING_JOB, HOUSE_JOB, RIBBON_JOB, SHORT_JOB,
+    TWO_PLACES_JOB, UNSORTED_JOB,
 };
 use crate::reference::Reference;
 use compare::bordavina::{CheckResult, PlaceResult, VerdictResult, TEXT_SIZE};
@@ -74,6 +75,8 @@ fn unaltered_answers() {
         UNSORTED_JOB,
         FALLING_JOB,
         BARE_JOB,
+        BARE_PANE_JOB,
+        TWO_PLACES_JOB,
         b"",
         b"T 00000 00000\n",
         b"GT 00000 00001\n",

@@ -1,7 +1,7 @@
 //! A library that lists the short group in a wrong order in one of its calls (document 02, 2026-04), which
 //! the comparison of the file has to find in that call.
 
-use crate::jobs::{BARE_JOB, EXAMPLE_J, FALLING_JOB, SHORT_JOB, UNSORTED_JOB};
+use crate::jobs::{BARE_JOB, BARE_PANE_JOB, EXAMPLE_J, FALLING_JOB, SHORT_JOB, UNSORTED_JOB};
 use crate::reference::Reference;
 use crate::wrong_calls::{found, write};
 use compare::bordavina::{CheckResult, PlaceResult, VerdictResult, TEXT_SIZE};
@@ -54,7 +54,7 @@ pub fn reverse_short_line(text: &[u8]) -> String {
 
 #[test]
 fn found_in_the_call_that_is_wrong() {
-    for file in [SHORT_JOB, UNSORTED_JOB, FALLING_JOB] {
+    for file in [SHORT_JOB, UNSORTED_JOB, FALLING_JOB, BARE_JOB] {
         for (call, other) in [("place", "report"), ("report", "place")] {
             let library = Falling { call };
             assert!(found(&library, file, call, RISING));
@@ -66,7 +66,7 @@ fn found_in_the_call_that_is_wrong() {
 /// A group of one pane, or none, has no other order.
 #[test]
 fn nothing_to_find() {
-    for file in [BARE_JOB, EXAMPLE_J] {
+    for file in [BARE_PANE_JOB, EXAMPLE_J] {
         for call in ["place", "report"] {
             let outcome = compare(&Falling { call }, file, &mut Random::of_file(1, 1));
             assert_eq!(outcome.finding_count, 0, "{:?}", outcome.findings);

@@ -1,12 +1,12 @@
 //! What the program printed, which has to be the text that the library gave, and right by itself.
 
-use crate::jobs::{EXAMPLE_J, UNSORTED_JOB};
+use crate::jobs::{EXAMPLE_J, TWO_PLACES_JOB, UNSORTED_JOB};
 use crate::reference::Reference;
 use crate::wrong_orders::reverse_short_line;
 use compare::comparison::{compare, compare_printed};
 use compare::outcome::Outcome;
 use compare::random::Random;
-use compare::rules::RISING;
+use compare::rules::{GREATEST, LEFT, RISING, WHOLE};
 use compare::text::REFUSAL;
 
 /// What was expected of the program where it printed this, and the library gave that text.
@@ -30,7 +30,7 @@ fn right_text(file: &[u8]) -> Vec<u8> {
 
 #[test]
 fn right_prints() {
-    for file in [EXAMPLE_J, UNSORTED_JOB, b"--"] {
+    for file in [EXAMPLE_J, UNSORTED_JOB, TWO_PLACES_JOB, b"--"] {
         let right = right_text(file);
         assert_eq!(expected(file, &right, &right), [""; 0]);
     }
@@ -46,6 +46,15 @@ fn a_group_out_of_order() {
         expected(UNSORTED_JOB, &wrong, &right),
         [&format!("{:?}", String::from_utf8_lossy(&right)), RISING]
     );
+}
+
+/// Document 02, 2026-05: found also where the library gave the same text.
+#[test]
+fn fewer_panes_and_a_part_of_the_shortage() {
+    let fewer = b"1 9\n3 0\n4 0\n6 7\n5 0\n2 5\nshort 3 4 5 6\n";
+    assert_eq!(expected(TWO_PLACES_JOB, fewer, fewer), [GREATEST]);
+    let part = b"1 8\n3 9\n4 0\n6 7\n5 0\n3 5\nshort 3 4\n";
+    assert_eq!(expected(TWO_PLACES_JOB, part, part), [WHOLE, LEFT]);
 }
 
 /// A right text that is not the one of the library.

@@ -1,9 +1,9 @@
 //! Wrong texts, each of which has to be found by the rules that it breaks.
 
-use crate::jobs::{BARE_JOB, EXAMPLE_J, FALLING_JOB, SHORT_JOB, UNSORTED_JOB};
+use crate::jobs::{BARE_JOB, EXAMPLE_J, FALLING_JOB, SHORT_JOB, TWO_PLACES_JOB, UNSORTED_JOB};
 use compare::reader::read;
 use compare::roof::Roof;
-use compare::rules::{GROUP, RISING, SHORT, STOCK};
+use compare::rules::{GREATEST, GROUP, LEFT, PLACED, RISING, SHORT, STOCK, WHOLE};
 use compare::text::{check_text, FORM, PANES, REFUSAL, SHORT_LINE};
 
 /// The rules that a text breaks.
@@ -54,7 +54,7 @@ fn texts_of_a_short_job() {
     assert_eq!(text("short 3 4\n"), [""; 0]);
     assert_eq!(text(""), [SHORT_LINE, GROUP]);
     assert_eq!(text("short\n"), [GROUP]);
-    assert_eq!(text("short 4\n"), [SHORT]);
+    assert_eq!(text("short 4\n"), [SHORT, WHOLE]);
     for end in [
         "short 3 4",
         "short  3 4\n",
@@ -86,7 +86,7 @@ fn short_lines_out_of_order() {
         assert_eq!(text(line), [RISING], "{order}");
     }
     assert_eq!(text("short 9 9 10 100\n"), [GROUP, RISING]);
-    assert_eq!(text("short 100 9\n"), [SHORT, RISING]);
+    assert_eq!(text("short 100 9\n"), [SHORT, WHOLE, LEFT, RISING]);
 }
 
 #[test]
@@ -97,10 +97,25 @@ fn short_lines_in_file_order_where_ids_fall() {
     };
     assert_eq!(all("short 1 9 10 9999\n"), [""; 0]);
     assert_eq!(all("short 9999 10 9 1\n"), [RISING]);
-    let one_or_both = |end: &str| broken_text(BARE_JOB, &format!("9999 0\n1 0\n0 2\n{end}"));
-    assert_eq!(one_or_both("short 9999\n"), [""; 0]);
-    assert_eq!(one_or_both("short 1 9999\n"), [""; 0]);
-    assert_eq!(one_or_both("short 9999 1\n"), [RISING]);
+    let both = |end: &str| broken_text(BARE_JOB, &format!("9999 0\n1 0\n0 2\n{end}"));
+    assert_eq!(both("short 1 9999\n"), [""; 0]);
+    assert_eq!(both("short 9999 1\n"), [RISING]);
+}
+
+/// Document 02, 2026-05: fewer panes than can be served, and groups that do not show the whole shortage.
+#[test]
+fn texts_of_a_roof_short_in_two_places() {
+    let text = |text: &str| broken_text(TWO_PLACES_JOB, text);
+    let right = "1 8\n3 9\n4 0\n6 7\n5 0\n3 5\n";
+    let group = |end: &str| text(&format!("{right}{end}"));
+    assert_eq!(group("short 3 4 5 6\n"), [""; 0]);
+    assert_eq!(group("short 3 4\n"), [WHOLE, LEFT]);
+    assert_eq!(group("short 4 5 6\n"), [WHOLE]);
+    assert_eq!(group("short 1 3 4 5 6\n"), [WHOLE]);
+    let fewer = "1 9\n3 0\n4 0\n6 7\n5 0\n2 5\nshort 3 4 5 6\n";
+    assert_eq!(text(fewer), [GREATEST]);
+    let made_up = "1 9\n3 0\n4 0\n6 7\n5 0\n3 5\nshort 3 4 5 6\n";
+    assert_eq!(text(made_up), [PLACED, GREATEST]);
 }
 
 /// The lines of panes stay in file order.

@@ -1,10 +1,12 @@
-//! That the sides of a pane set the interval of glasses that pass for it, in every wind of its roof, and
-//! that there is one short group where there is to be no other.
+//! That the sides of a pane set the interval of glasses that pass for it, in every wind of its roof, also
+//! where that is none, that there is one short group where there is to be no other, and that crowds are
+//! short.
 
+use super::side_by_side::{crowd, side_by_side, two_crowds};
 use super::{only_group, pane, sheet, sides, Shape, FIRST_WIDTHS, PRESSURES, THICK};
 use crate::clauses::{Loads, FAILS_SIZE, FAILS_UNIFORM_LOAD, PASSES};
 use crate::generator::winds::Winds;
-use crate::job::{Glass, Pane, Wind, MOST_GLASSES};
+use crate::job::{Glass, Pane, Wind, MOST_GLASSES, MOST_PANES};
 use crate::random::Random;
 use std::ops::RangeInclusive;
 
@@ -32,7 +34,7 @@ fn check_roof(first_width: u16, winds: &[Wind]) {
         .map(|at| THICK.map(|thick| sheet(first_width, at, thick, winds)))
         .collect();
     for first in 0..MOST_GLASSES {
-        for last in first..MOST_GLASSES {
+        for last in first.saturating_sub(1)..MOST_GLASSES {
             let (w, h) = sides(first_width, (first, last));
             for &wind in winds {
                 check(&pane((w, h), wind), &rack, first..=last);
@@ -91,6 +93,39 @@ fn one_short_group_and_no_other() {
     }
     assert_eq!(sizes[0], 0);
     assert!(sizes[1..].iter().all(|&count| count > 0), "{sizes:?}");
+}
+
+#[test]
+fn a_crowd_is_short() {
+    for seed in 0..100 {
+        let mut random = Random::of_seed(seed);
+        let shape = crowd(random.draw(1..=4), &mut random);
+        let all: Vec<usize> = (0..shape.intervals.len()).collect();
+        assert!(is_short(&shape, &all), "seed {seed}");
+    }
+}
+
+/// The panes of each crowd have the same glasses.
+#[test]
+fn each_of_two_crowds_is_short() {
+    for seed in 0..100 {
+        let shape = two_crowds(&mut Random::of_seed(seed));
+        let first = shape.intervals[0];
+        let panes = 0..shape.intervals.len();
+        let (one, other): (Vec<usize>, Vec<usize>) =
+            panes.partition(|&pane| shape.intervals[pane] == first);
+        assert!(is_short(&shape, &one), "seed {seed}");
+        assert!(is_short(&shape, &other), "seed {seed}");
+    }
+}
+
+#[test]
+fn shapes_side_by_side_fit_into_a_file() {
+    for seed in 0..1_000 {
+        let shape = side_by_side(&mut Random::of_seed(seed));
+        assert!(shape.stocks.len() <= MOST_GLASSES);
+        assert!(shape.intervals.len() <= MOST_PANES);
+    }
 }
 
 /// Every group of so many panes.
