@@ -93,8 +93,8 @@ bordavina_verdict_result bordavina_verdict(const uint8_t *file, size_t file_leng
  * The first `wanted` entries of `answers` are then those of the file's panes, in its order: the id of the pane's glass, or 0
  * where it has none. Later entries are untouched. Every given glass passes for its pane, and no glass is given more often
  * than its stock. Where a pane has 0, all sheets of the glasses that pass for it are given to others. `placed` counts the
- * entries that are not 0, and no other way to give panes passing glasses within stock serves more. So it is `wanted` exactly
- * when some way exists to serve every pane.
+ * entries that are not 0. No answers that keep to this have more of them: it is the greatest number of panes that the rack can
+ * serve, and `wanted` exactly when some way exists to serve every pane.
  *
  * If it is, `group` is 0 and `short_group` is untouched. If it is not, the first `group` entries of `short_group` are ids of
  * panes, from the lowest up and each once, that show why: the stocks of all glasses that pass for at least one of these
@@ -103,11 +103,11 @@ bordavina_verdict_result bordavina_verdict(const uint8_t *file, size_t file_leng
  * ids came in the order of the file.
  *
  * At least `wanted` less `placed` sheets are missing. Where for every pane that has 0 some glass of the file passes, so many
- * are enough: one more sheet of such a glass for each of those panes.
+ * are enough: one more sheet of such a glass, whichever it is, for each of those panes.
  *
  * Which passing glass a pane has, which panes are placed when not all can be, and which group is listed, may change from one
- * version to the next; `placed` does not. A refusal leaves both lists untouched; each list needs an entry for every pane, or the
- * call is refused with BORDAVINA_LIST_TOO_SHORT. */
+ * version to the next. How many are placed is not open: the file settles it, by the clauses in force. A refusal leaves both
+ * lists untouched; each list needs an entry for every pane, or the call is refused with BORDAVINA_LIST_TOO_SHORT. */
 bordavina_place_result bordavina_place(const uint8_t *file, size_t file_length,
                                        uint32_t *answers, size_t answers_length,
                                        uint32_t *short_group, size_t short_group_length);

@@ -1,4 +1,4 @@
-//! The placing in safe Rust: document 01, "The placing", and document 02, 2026-04.
+//! The placing in safe Rust: document 01, "The placing", and document 02, 2026-04 and 2026-05.
 
 use compare::clauses::{Loads, PASSES};
 use compare::job::{Glass, Job, Pane, LARGEST_ID, MOST_GLASSES, MOST_PANES};

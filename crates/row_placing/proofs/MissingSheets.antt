@@ -7,7 +7,7 @@ use Rattle.basics.proofs.Tests.{same-or-not}
 use Rattle.row_placing.specs.Schedule.{Schedule}
 use Rattle.row_placing.specs.MissingSheets.{MissingSheetsLaw}
 use Rattle.row_placing.proofs.MoreSheets.{lacking-le}
-use Rattle.row_placing.proofs.NewSheets.{sheets-enough}
+use Rattle.row_placing.proofs.NewSheets.{sheets-enough, as-many}
 
 pub missing-sheets : (s : Schedule) → MissingSheetsLaw s
 missing-sheets s told ids group placed g = record {
@@ -17,5 +17,6 @@ missing-sheets s told ids group placed g = record {
       (λ all. omega (arith, all))
       (λ left. omega (arith, g .whole-shortage, lacking-le more enough group (g .if-less left .some-panes)))
       (same-or-not placed (length (s .pane-ids)));
-  enough = λ some. rw (g .placed-is) (sheets-enough told ids (g .placing) some);
+  enough = λ choice passing. sheets-enough ids (g .placing) choice passing told;
+  as-many = λ choice passing. omega (arith, g .placed-is, as-many ids (g .placing) choice passing);
 }

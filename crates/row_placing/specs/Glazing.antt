@@ -15,7 +15,8 @@ pub record Glazing (s : Schedule) (ids group : List ℕ) (placed : ℕ) : Type 0
   pub placing : Placing s ids
   pub none-to-spare : NoneToSpare s ids
   pub placed-is : placed ≡ nonzero ids
-  -- every pane is placed exactly where that can be done; `all-placed` follows from `placing` and `placed-is`
+  -- every pane is placed exactly where that can be done; `all-placed` follows from `placing` and `placed-is`, `all-placeable` from
+  -- `most-placed`
   pub all-placed : placed ≡ length (s .pane-ids) → FullPlacing s
   pub all-placeable : FullPlacing s → placed ≡ length (s .pane-ids)
   -- request 2026-05: of all placings, none places more
@@ -25,6 +26,6 @@ pub record Glazing (s : Schedule) (ids group : List ℕ) (placed : ℕ) : Type 0
   pub if-less : (placed ≡ length (s .pane-ids) → ⊥) → ShortGroup s group
   -- request 2026-04: each id of the group is below the next
   pub rises : Rises group
-  -- the group lacks as many sheets as panes are left over, and no group lacks more
+  -- the group lacks as many sheets as panes are left over; no group lacks more, which follows from `placing` and `placed-is`
   pub whole-shortage : lacking s group ≡ length (s .pane-ids) - placed
   pub no-more-lacking : (other : List ℕ) → PaneGroup s other → lacking s other ≤ length (s .pane-ids) - placed

@@ -1,5 +1,5 @@
--- What follows from the definitions of a placing and a short group alone, of any schedule: the owner's demands 2 and 3, and request
--- 2026-05. Nothing is asked of it: ids may repeat or be 0, and there may be any number of glasses.
+-- What follows from the definitions of a placing, a short group and what the placing is to give alone, of any schedule: the owner's demands
+-- 2 and 3, and request 2026-05. Nothing is asked of it: ids may repeat or be 0, and there may be any number of glasses.
 use Prim.Native.Nat.{ℕ, _-_, _≤_, _<_}
 use mathlib.Core.Path.{_≡_}
 use mathlib.Core.Bool.{true}

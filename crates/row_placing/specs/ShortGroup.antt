@@ -29,7 +29,7 @@ pub record PaneGroup (s : Schedule) (group : List ℕ) : Type 0 where
   pub of-panes : (k : ℕ) → k < length group → PaneId s (getD group k 0)
   pub each-once : Distinct group
 
--- How many sheets a group lacks: its panes less those sheets, and 0 where there are enough.
+-- How many sheets a group lacks: its panes less the sheets for it, and 0 where there are enough.
 abbrev pub lacking : Schedule → List ℕ → ℕ
 lacking s group = length group - sheetsFor s group
 

@@ -40,7 +40,7 @@ confined t some p = allTo (λ g. not (t .passes p g) || some g) (t .glasses)
 abbrev pub sheetsOf : Task → (ℕ → Bool) → ℕ
 sheetsOf t some = sumTo (λ g. if some g then t .sheets g else 0) (t .glasses)
 
--- A matching that no other beats, and some glasses that show why: the panes that must have one of them are more than their
+-- A matching that no other beats, and some glasses that show why: the panes that can have none but these are more than their
 -- sheets by exactly the panes that are left over. Where none is, there are no such glasses.
 pub record Greatest (t : Task) (glassOf : ℕ → ℕ) (tight : ℕ → Bool) : Type 0 where
   pub matching : Matching t glassOf
