@@ -93,8 +93,8 @@ bordavina_verdict_result bordavina_verdict(const uint8_t *file, size_t file_leng
  * The first `wanted` entries of `answers` are then those of the file's panes, in its order: the id of the pane's glass, or 0
  * where it has none. Later entries are untouched. Every given glass passes for its pane, and no glass is given more often
  * than its stock. Where a pane has 0, all sheets of the glasses that pass for it are given to others. `placed` counts the
- * entries that are not 0. No answers that keep to this have more of them: it is the greatest number of panes that the rack can
- * serve, and `wanted` exactly when some way exists to serve every pane.
+ * entries that are not 0. No other way to do this serves more panes, so it is `wanted` exactly when some way exists to serve
+ * every pane.
  *
  * If it is, `group` is 0 and `short_group` is untouched. If it is not, the first `group` entries of `short_group` are ids of
  * panes, from the lowest up and each once, that show why: the stocks of all glasses that pass for at least one of these
