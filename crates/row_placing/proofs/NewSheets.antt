@@ -2,7 +2,7 @@
 --     sheets-enough    they are enough
 --     as-many          so many they are
 use Prim.Native.Nat.{ℕ, _+_, _-_, _≤_, _<_}
-use mathlib.Core.Path.{_≡_, refl, ap, sym, _∙_}
+use mathlib.Core.Path.{_≡_, refl, sym, _∙_}
 use mathlib.Core.Logic.{_⊎_, inl, inr}
 use mathlib.Core.Bool.{Bool, true, false, _&&_}
 use mathlib.Core.List.{List}
@@ -17,7 +17,7 @@ use Rattle.ranges.specs.Internal.Counts.{one, countTo}
 use Rattle.ranges.proofs.Sums.{sum-le, sum-add, sum-cong}
 use Rattle.ranges.proofs.Counts.{one-le, count-same, count-none, count-not, count-by}
 use Rattle.row_placing.specs.Schedule.{Schedule}
-use Rattle.row_placing.specs.Placing.{times, nonzero, PassingId, Placing, FullPlacing}
+use Rattle.row_placing.specs.Placing.{times, nonzero, PassingId, Placing}
 use Rattle.row_placing.specs.MissingSheets.{withSheets, EnoughWith, GlassIds, PassingChoice, chosen}
 use Rattle.row_placing.proofs.Ids.{times-count, nonzero-count}
 use Rattle.row_placing.proofs.Numbers.{same-number}

@@ -1,23 +1,24 @@
--- The laws of placings hold for every schedule, by counting. A group has no more panes than there are panes with an id in it. A pane that
--- a placing gives a glass is not one of these, or its glass suits the group; and such a glass goes to no more panes than it has sheets. So
--- the panes placed and the panes of the group are no more than all panes and the group's sheets.
+-- The laws of placings hold for every schedule. The glasses that a placing gives are a matching, and a pane of a group can have none but
+-- glasses that suit the group; so the law of matchings bounds the panes placed and those of the group by all panes and the group's sheets.
 --     group-bound     they are no more
 --     placing-laws    the laws
 use Prim.Native.Nat.{ℕ, suc, _+_, _-_, _≤_, _<_}
-use mathlib.Core.Path.{_≡_, refl}
+use mathlib.Core.Path.{_≡_, refl, _∙_}
 use mathlib.Core.Logic.{_⊎_, inl, inr}
-use mathlib.Core.Bool.{Bool, true, false, not, _&&_, or-true}
+use mathlib.Core.Bool.{Bool, true, false, not, _&&_, _||_, or-true}
 use mathlib.Core.List.{List, [], _∷_}
 use native.Mathlib.Omega.{arith}
 use lib.Dec.{T, ltb, eqb}
 use lib.ListN.{length, getD}
-use borrow.Author.Tests.{ltb-true, ltb-false, lt-ltb, eqb-true, eqb-false, eq-eqb}
+use borrow.Author.Tests.{ltb-true, ltb-false, lt-ltb, le-ltb, eqb-true, eqb-false, eq-eqb}
 use Rattle.ids.specs.Ids.{among, Distinct}
-use Rattle.ranges.specs.Ranges.{sumTo}
 use Rattle.ranges.specs.Internal.Counts.{one, countTo}
-use Rattle.ranges.proofs.Sums.{sum-le, sum-add, sum-less, sum-le-some}
-use Rattle.ranges.proofs.Counts.{one-le, count-less, count-fewer, count-not, count-by}
+use Rattle.ranges.proofs.Sums.{sum-less}
+use Rattle.ranges.proofs.Counts.{one-le, count-same, count-less, count-fewer}
 use Rattle.ranges.proofs.Any.{any-of}
+use Rattle.ranges.proofs.All.{all-of}
+use Rattle.matching.specs.Internal.Matching.{Task, given, served, Matching, confined}
+use Rattle.matching.proofs.Cover.{served-le, served-less}
 use Rattle.row_placing.specs.Schedule.{Schedule}
 use Rattle.row_placing.specs.Placing.{nonzero, PassingId, Placing}
 use Rattle.row_placing.specs.ShortGroup.{suits, sheetsFor, PaneId, PaneGroup, lacking}
@@ -55,41 +56,66 @@ module _ (s : Schedule) where
             (rw (pane .is-id, eq-eqb id id refl) (fails-less (among id ids) (once .0))),
       )
 
+  -- What is to be matched.
+  abbrev task : Task
+  task = record {
+    panes = length (s .pane-ids);
+    glasses = length (s .glass-ids);
+    passes = s .passes;
+    sheets = λ g. getD (s .sheets) g 0;
+  }
+
+  -- A pane of a group can have none but glasses that suit it.
+  confined-in :
+      (group : List ℕ) (p : ℕ) → p < length (s .pane-ids) → inGroup group p ≡ true → confined task (suits s group) p ≡ true
+  confined-in group p l is =
+      all-of (λ g. not (s .passes p g) || suits s group g) (length (s .glass-ids)) (λ g k. go g (s .passes p g) refl)
+    where
+      go : (g : ℕ) (b : Bool) → s .passes p g ≡ b → (not b || suits s group g) ≡ true
+      go g true pass = any-of (λ q. inGroup group q && s .passes q g) (length (s .pane-ids)) p l (rw (is, pass))
+      go g false fail = refl
+
   module _ (ids : List ℕ) (placing : Placing s ids) where
     abbrev entry : ℕ → ℕ
     entry p = getD ids p 0
 
-    -- The place of the glass that a pane is given; past the last glass where it is given none.
+    -- The place of the glass that a pane is given; past the last glass where it is given none. Of no pane, any number.
     record GlassOf (p : ℕ) : Type 0 where
       place : ℕ
       within : p < length (s .pane-ids) → (entry p ≡ 0 → ⊥) → place < length (s .glass-ids)
+      none : p < length (s .pane-ids) → entry p ≡ 0 → place ≡ length (s .glass-ids)
       is-id : p < length (s .pane-ids) → place < length (s .glass-ids) → getD (s .glass-ids) place 0 ≡ entry p
       passing : p < length (s .pane-ids) → place < length (s .glass-ids) → s .passes p place ≡ true
 
     glass-of : (p : ℕ) → GlassOf p
-    glass-of p = go (ltb p (length (s .pane-ids))) refl
+    glass-of p = go (ltb p (length (s .pane-ids))) (eqb (entry p) 0) refl refl
       where
-        given : (entry p ≡ 0) ⊎ PassingId s p (entry p) → GlassOf p
-        given (inl zero) = record {
-          place = length (s .glass-ids);
-          within = λ l some. absurd (some zero);
-          is-id = λ l k. absurd (omega arith);
-          passing = λ l k. absurd (omega arith);
-        }
-        given (inr g) = record {
+        given-one : (entry p ≡ 0 → ⊥) → (entry p ≡ 0) ⊎ PassingId s p (entry p) → GlassOf p
+        given-one some (inl zero) = absurd (some zero)
+        given-one some (inr g) = record {
           place = g .place;
-          within = λ l some. g .within;
+          within = λ l is. g .within;
+          none = λ l zero. absurd (some zero);
           is-id = λ l k. g .is-id;
           passing = λ l k. g .passing;
         }
 
-        go : (b : Bool) → ltb p (length (s .pane-ids)) ≡ b → GlassOf p
-        go true is = given (placing .passing p (ltb-true p (length (s .pane-ids)) is))
-        go false is =
-            let past = ltb-false p (length (s .pane-ids)) is in
+        go : (a b : Bool) → ltb p (length (s .pane-ids)) ≡ a → eqb (entry p) 0 ≡ b → GlassOf p
+        go true true here is = record {
+          place = length (s .glass-ids);
+          within = λ l some. absurd (some (eqb-true (entry p) 0 is));
+          none = λ l zero. refl;
+          is-id = λ l k. absurd (omega arith);
+          passing = λ l k. absurd (omega arith);
+        }
+        go true false here is =
+            given-one (eqb-false (entry p) 0 is) (placing .passing p (ltb-true p (length (s .pane-ids)) here))
+        go false b past is =
+            let beyond = ltb-false p (length (s .pane-ids)) past in
             record {
               place = 0;
               within = λ l. absurd (omega arith);
+              none = λ l. absurd (omega arith);
               is-id = λ l. absurd (omega arith);
               passing = λ l. absurd (omega arith);
             }
@@ -98,7 +124,7 @@ module _ (s : Schedule) where
     way p = glass-of p .place
 
     -- A glass goes to no more panes than it has sheets: each of them has its id.
-    in-stock : (g : ℕ) → g < length (s .glass-ids) → countTo (λ p. eqb (way p) g) (length (s .pane-ids)) ≤ getD (s .sheets) g 0
+    in-stock : (g : ℕ) → g < length (s .glass-ids) → given task way g ≤ getD (s .sheets) g 0
     in-stock g k =
         omega (
           arith,
@@ -112,80 +138,47 @@ module _ (s : Schedule) where
             let same = eqb-true (way p) g is in
             eq-eqb (entry p) (getD (s .glass-ids) g 0) (rw (← same, glass-of p .is-id l (omega (arith, same))))
 
-    module _ (group : List ℕ) where
-      -- Whether a pane is given a glass that suits the group.
-      abbrev isSuited : ℕ → Bool
-      isSuited p = ltb (way p) (length (s .glass-ids)) && suits s group (way p)
+    matches : Matching task way
+    matches = record { passing = λ p l k. glass-of p .passing l k; in-stock = in-stock }
 
-      -- Those panes are no more than the group's sheets.
-      suited-le : countTo isSuited (length (s .pane-ids)) ≤ sheetsFor s group
-      suited-le =
+    -- The panes that have an id are those that are served.
+    served-is : nonzero ids ≡ served task way
+    served-is =
+        nonzero-count ids (length (s .pane-ids)) (placing .one-each)
+        ∙ count-same
+        (λ p. not (eqb (entry p) 0))
+        (λ p. ltb (way p) (length (s .glass-ids)))
+        (length (s .pane-ids))
+        (λ p l. go p l (eqb (entry p) 0) refl)
+      where
+        go : (p : ℕ) → p < length (s .pane-ids) → (b : Bool) → eqb (entry p) 0 ≡ b → not b ≡ ltb (way p) (length (s .glass-ids))
+        go p l true is =
+            rw (le-ltb (way p) (length (s .glass-ids)) (omega (arith, glass-of p .none l (eqb-true (entry p) 0 is))))
+        go p l false is =
+            rw (lt-ltb (way p) (length (s .glass-ids)) (glass-of p .within l (eqb-false (entry p) 0 is)))
+
+    module _ (group : List ℕ) (panes : PaneGroup s group) where
+      pub group-bound : length group + nonzero ids ≤ sheetsFor s group + length (s .pane-ids)
+      group-bound =
           omega (
             arith,
-            count-by (suits s group) way (length (s .pane-ids)) (length (s .glass-ids)),
-            sum-le-some
-                (suits s group)
-                (λ g. countTo (λ p. eqb (way p) g) (length (s .pane-ids)))
-                (λ g. getD (s .sheets) g 0)
-                (length (s .glass-ids))
-                (λ g k is. in-stock g k),
+            group-le group (panes .each-once) (panes .of-panes),
+            served-is,
+            served-le task (suits s group) way (inGroup group) matches (confined-in group),
           )
 
-      -- A pane of the group that is given a glass is one of them.
-      suited : (p : ℕ) → p < length (s .pane-ids) → (entry p ≡ 0 → ⊥) → inGroup group p ≡ true → isSuited p ≡ true
-      suited p l some is =
-          let k = glass-of p .within l some in
-          let pass = glass-of p .passing l k in
-          rw (
-            lt-ltb (way p) (length (s .glass-ids)) k,
-            any-of (λ q. inGroup group q && s .passes q (way p)) (length (s .pane-ids)) p l (rw (is, pass)),
+      -- A pane that is neither placed nor of the group leaves one to spare.
+      spare-bound :
+          (p : ℕ) → p < length (s .pane-ids) → entry p ≡ 0 → inGroup group p ≡ false →
+          length group + nonzero ids < sheetsFor s group + length (s .pane-ids)
+      spare-bound p l zero out =
+          let past : length (s .glass-ids) ≤ way p = omega (arith, glass-of p .none l zero) in
+          omega (
+            arith,
+            group-le group (panes .each-once) (panes .of-panes),
+            served-is,
+            served-less task (suits s group) way (inGroup group) matches (confined-in group) p l past out,
           )
-
-      -- What a pane counts: 1 if it is placed; and at least as much, 1 if it is one of those panes, and 1 if it is not of the group.
-      abbrev isPlaced : ℕ → Bool
-      isPlaced p = not (eqb (entry p) 0)
-
-      abbrev share : ℕ → ℕ
-      share p = one (isSuited p) + one (not (inGroup group p))
-
-      placed-share : (p : ℕ) → p < length (s .pane-ids) → one (isPlaced p) ≤ share p
-      placed-share p l = go (eqb (entry p) 0) (inGroup group p) refl refl
-        where
-          go :
-              (zero is : Bool) → eqb (entry p) 0 ≡ zero → inGroup group p ≡ is →
-              one (not zero) ≤ one (isSuited p) + one (not is)
-          go true is e here = omega arith
-          go false false e here = omega arith
-          go false true e here = rw (suited p l (eqb-false (entry p) 0 e) here) (omega arith)
-
-      module _ (panes : PaneGroup s group) where
-        -- What the panes count together bounds the group.
-        bound :
-            (placed : ℕ) → placed ≤ sumTo share (length (s .pane-ids)) →
-            length group + placed ≤ sheetsFor s group + length (s .pane-ids)
-        bound placed le =
-            omega (
-              arith,
-              group-le group (panes .each-once) (panes .of-panes),
-              count-not (inGroup group) (length (s .pane-ids)),
-              sum-add (λ p. one (isSuited p)) (λ p. one (not (inGroup group p))) (length (s .pane-ids)),
-              suited-le,
-            )
-
-        pub group-bound : length group + nonzero ids ≤ sheetsFor s group + length (s .pane-ids)
-        group-bound =
-            bound (nonzero ids)
-            (rw (nonzero-count ids (length (s .pane-ids)) (placing .one-each))
-            (sum-le (λ p. one (isPlaced p)) share (length (s .pane-ids)) placed-share))
-
-        -- A pane that is neither placed nor of the group leaves one to spare.
-        spare-bound :
-            (p : ℕ) → p < length (s .pane-ids) → entry p ≡ 0 → inGroup group p ≡ false →
-            length group + suc (nonzero ids) ≤ sheetsFor s group + length (s .pane-ids)
-        spare-bound p l zero out =
-            bound (suc (nonzero ids))
-            (rw (nonzero-count ids (length (s .pane-ids)) (placing .one-each))
-            (sum-less (λ q. one (isPlaced q)) share (length (s .pane-ids)) p l placed-share (rw (zero, out) (omega arith))))
 
 pub placing-laws : (s : Schedule) → PlacingLaws s
 placing-laws s = record {
