@@ -1,4 +1,6 @@
 // The dead loads by angle: Table 6.1 of AS 1288, as specs/DeadLoads.antt has it.
+#![tactic(auto)]
+
 ghost use Rattle.std.specs.Prelude.{◌≡◌, ◌≤◌};
 ghost use Rattle.dead_loads.specs.DeadLoads.{maximum_at, minimum_at};
 

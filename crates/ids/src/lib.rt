@@ -1,4 +1,6 @@
 // Ids of glasses and panes: the place of one in a list, and sets of them.
+#![tactic(auto)]
+
 mod find;
 mod sets;
 

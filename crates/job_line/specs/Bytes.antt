@@ -2,7 +2,6 @@
 use Rattle.std.specs.Prelude.{ℕ, List, [], ◌∷◌}
 use Prim.Native.Char.{code}
 use Prim.Native.String.{String}
-use Prim.Native.String
 
 -- The bytes that the format names.
 abbrev pub newline : ℕ
