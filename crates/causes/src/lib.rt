@@ -1,5 +1,7 @@
 // Why a call is refused: document 01, "What each cause gives", less number 7, which document 02, 2026-01, takes away. The numbers of
 // refusals stand here and nowhere else in the code.
+#![tactic(auto)]
+
 ghost use Rattle.std.specs.Prelude.{◌≡◌};
 ghost use Rattle.causes.specs.Cause.{number_of};
 

@@ -1,5 +1,7 @@
 // A set of glasses as a word of 64 bits: document 01, "The placing". Bit g is that of the glass at place g of the file. Built and
 // tested by shifts and masks; every promise is on each bit, as specs/Internal/Member.antt defines.
+#![tactic(auto)]
+
 ghost use Rattle.std.specs.Prelude.{◌≡◌, not, ◌&&◌, ◌||◌, ◌<◌, eqb};
 ghost use Rattle.glass_set.specs.Internal.Member.{has, Members, Lowest, is_within};
 

@@ -11,7 +11,7 @@ use native.Mathlib.Omega.{arith}
 use lib.Dec.{leb, eqb, leb→le}
 use lib.ListN.{length}
 use borrow.Author.Tests.{eqb-true}
-use Rattle.basics.specs.Choice.{if◌then◌else◌}
+use Rattle.std.specs.Prelude.{if◌then◌else◌}
 use Rattle.job_line.specs.Bytes.{newline, space, next, behind, Found, found, nothing}
 use Rattle.job_line.specs.Number.{is_digit, number}
 use Rattle.job_line.specs.Line.{numbers, ended, line}

@@ -1,16 +1,10 @@
 -- `first` meets its contract: the trailing zeros count up to the first bit that is set, and none of them is a bit.
 use borrow.Author.Rules.{rules}
-use native.Mathlib.Omega.{arith}
-use lib.Count.{trailing_le}
 use Rattle.bits.proofs.Bits.{first_has, none_below}
-use Rattle.glass_set.proofs.first.Statement.{statement}
-use Rattle.glass_set.proofs.first.Tie as tie
+use Rattle.glass_set.proofs.first.Goals as goal
 
-returns : tie.Need-returns
+pub returns : goal.returns
 returns c =
     let set = c.args.set in
     let found = first_has 64 set c.requires (search rules) in
     record { below = found.0; member = found.1; none_lower = none_below 64 set }
-
-pub first_spec : {M : Type 1} → statement M
-first_spec = tie.close (tie.spec (λ c. record { fits = omega (arith, trailing_le 64 c.args.set) }) returns)
