@@ -1,4 +1,3 @@
--- The choice by a test.
 -- Lists that a caller lends.
 pub mod Lent
 pub mod Internal

@@ -2,6 +2,8 @@
 //
 // `check` says whether a file is accepted, and `read_job` gives its glasses and panes too. Both answer for every list of bytes, as
 // specs/File.antt defines.
+#![tactic(auto)]
+
 mod file;
 mod job;
 mod trailer;
