@@ -17,7 +17,7 @@ pub use file::read_job;
 pub use job::{Job, JobNumbers, numbers_of};
 
 // The answer to a check: how many glasses and panes the file has, or why and where it is refused.
-#[derive(Drop)]
+#[derive(Clone, Copy)]
 pub enum Checked {
     Accepted {
         glass_count: usize,
