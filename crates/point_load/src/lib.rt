@@ -1,4 +1,6 @@
 // Clause 3, the point load: document 01, "The four clauses"; AS 1288, 6.5.4.
+#![tactic(auto)]
+
 mod live_load;
 mod sides;
 mod support;

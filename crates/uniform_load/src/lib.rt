@@ -1,4 +1,6 @@
 // Clause 4, the uniform load: document 01, "The four clauses"; AS 1288, 6.5.5 and Tables 6.1 and A2.
+#![tactic(auto)]
+
 mod glass_loads;
 mod pressure;
 mod wind;
