@@ -6,7 +6,7 @@ ghost use Rattle.std.specs.Prelude.{◌≡◌};
 ghost use Rattle.causes.specs.Cause.{number_of};
 
 // A cause of document 01's table, in its order. Requests add theirs at the end, with the numbers 12 to 19; none takes 7 again.
-#[derive(Drop)]
+#[derive(Clone, Copy)]
 pub enum Cause {
     // of the file
     FileLength,
