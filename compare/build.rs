@@ -8,7 +8,7 @@ fn main() {
     let library = folder.join("libbordavina.a");
     if !library.exists() {
         println!(
-            "cargo:warning=crates/bordavina/out/libbordavina.a is missing: rt lib in crates/bordavina writes it"
+            "cargo:warning=crates/bordavina/out/libbordavina.a is missing: rt lib --cpu x86-64 in crates/bordavina writes it"
         );
     }
     println!("cargo:rustc-link-search=native={}", folder.display());

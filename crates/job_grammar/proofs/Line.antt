@@ -1,8 +1,8 @@
 -- A line that is written is read back, and a line that is read was written: number after number, each behind a space, which
 -- is no digit and so ends the number before it.
---     Small           numbers up to 99999
---     written_line_lem    what is written for numbers up to 99999 is read as those numbers
---     LineWas, line_read   what is read as numbers is what is written for them, and they are as many as asked for
+--     Small                 numbers up to 99999
+--     written_line_lem      what is written for numbers up to 99999 is read as those numbers
+--     LineWas, line_read    what is read as numbers is what is written for them, and they are as many as asked for
 use Prim.Native.Nat.{ℕ, zero, suc, ◌≤◌, ◌<◌}
 use mathlib.Core.Path.{◌≡◌, refl, sym, ◌∙◌, ap}
 use mathlib.Core.Bool.{Bool, true, false}

@@ -1,7 +1,7 @@
 -- A number that is written is read back, and a number that is read was written. A number up to 99999 other than 0 has a
 -- first digit other than 0, and then as many digits as its size says, so there is one way to write it.
---     written_number_lem       what is written for a number up to 99999 is read as that number, if no digit follows
---     number_read          what is read as a number is what is written for it
+--     written_number_lem    what is written for a number up to 99999 is read as that number, if no digit follows
+--     number_read           what is read as a number is what is written for it
 use Prim.Native.Nat.{ℕ, zero, suc, ◌+◌, ◌-◌, ◌*◌, ◌/◌, ◌%◌, ◌^◌, ◌≤◌, ◌<◌}
 use mathlib.Core.Path.{◌≡◌, refl, ◌∙◌, ap}
 use mathlib.Core.Bool.{Bool, true, false, ◌&&◌}

@@ -1,8 +1,8 @@
 -- A trailer that is written is read back, and bytes that are read as a trailer are what is written for its two offsets: five
 -- digits and the number that they make give each other.
---     length_trailer     a trailer has 14 bytes
+--     length_trailer         a trailer has 14 bytes
 --     written_trailer_lem    what is written for two offsets below 100000 is read as those offsets
---     trailer_read       bytes that are read as two offsets are what is written for them
+--     trailer_read           bytes that are read as two offsets are what is written for them
 use Prim.Native.Nat.{ℕ, zero, suc, ◌+◌, ◌-◌, ◌*◌, ◌/◌, ◌%◌, ◌^◌, ◌<◌}
 use mathlib.Core.Path.{◌≡◌, refl, ◌∙◌, ap}
 use mathlib.Core.Bool.{Bool, true, false, ◌&&◌}
