@@ -21,7 +21,7 @@ returns-in-FaultyGlass c =
     let l = c.loop-at in
     let a = c.args in
     progress_faulty glass_form blank_glass a.part.now a.offset l.glasses l.seen l.n l.at l.invariant
-    c.in-FaultyGlass.cause (omega arith) (omega (arith, l.invariant.few, c.if-n-eq64.false))
+    c.in-FaultyGlass.cause (omega arith) (omega (arith, l.invariant.few))
     (c.in-FaultyGlass.ensures _ l.invariant.ids)
 
 -- the id of a line that is taken is one of the set's
@@ -38,7 +38,7 @@ loop-at-preserved c =
     let a = c.args in
     let line = c.in-TakenGlass.ensures _ l.invariant.ids in
     progress_taken glass_form blank_glass a.part.now a.offset l.glasses l.seen l.n l.at l.invariant
-    c.in-TakenGlass.glass c.in-TakenGlass.next c.mark.new.seen (omega arith) (omega (arith, l.invariant.few, c.if-n-eq64.false))
+    c.in-TakenGlass.glass c.in-TakenGlass.next c.mark.new.seen (omega arith) (omega (arith, l.invariant.few))
     line.0 line.1 (c.mark.ensures _ l.invariant.ids)
 
 pub returns : goal.returns
@@ -58,13 +58,13 @@ overflow_add-result-in-FaultyGlass c = omega (arith, c.requires)
 
 -- fewer than 64 lines were read
 pub offset_bounds-glasses-n : goal.offset_bounds-glasses-n
-offset_bounds-glasses-n c = omega (arith, c.loop-at.invariant.few, c.if-n-eq64.false)
+offset_bounds-glasses-n c = omega (arith, c.loop-at.invariant.few)
 
 pub bounds-glasses-n : goal.bounds-glasses-n
-bounds-glasses-n c = omega (arith, c.loop-at.invariant.few, c.if-n-eq64.false)
+bounds-glasses-n c = omega (arith, c.loop-at.invariant.few)
 
 pub overflow_add-n : goal.overflow_add-n
-overflow_add-n c = omega (arith, c.loop-at.invariant.few, c.if-n-eq64.false)
+overflow_add-n c = omega (arith, c.loop-at.invariant.few)
 
 pub loop-at-smaller : goal.loop-at-smaller
-loop-at-smaller c = omega (arith, c.loop-at.invariant.few, c.if-n-eq64.false)
+loop-at-smaller c = omega (arith, c.loop-at.invariant.few)
