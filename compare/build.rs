@@ -4,11 +4,11 @@
 use std::path::Path;
 
 fn main() {
-    let folder = Path::new(env!("CARGO_MANIFEST_DIR")).join("../target/staticlib");
+    let folder = Path::new(env!("CARGO_MANIFEST_DIR")).join("../crates/bordavina/out");
     let library = folder.join("libbordavina.a");
     if !library.exists() {
         println!(
-            "cargo:warning=target/staticlib/libbordavina.a is missing: rt staticlib bordavina builds it"
+            "cargo:warning=crates/bordavina/out/libbordavina.a is missing: rt lib --cpu x86-64 in crates/bordavina writes it"
         );
     }
     println!("cargo:rustc-link-search=native={}", folder.display());

@@ -28,11 +28,11 @@ struct Run {
 impl Canopy {
     /// The program where the repository builds it.
     pub fn find() -> Result<Canopy, String> {
-        let path = Path::new(env!("CARGO_MANIFEST_DIR")).join("../target/bin/canopy");
+        let path = Path::new(env!("CARGO_MANIFEST_DIR")).join("../crates/canopy/out/canopy");
         if path.exists() {
             Ok(Canopy { path })
         } else {
-            Err("../target/bin/canopy is missing: compare/run builds it".to_string())
+            Err("../crates/canopy/out/canopy is missing: compare/run builds it".to_string())
         }
     }
 

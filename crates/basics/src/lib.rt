@@ -1,1 +1,2 @@
-// What no other crate is about: the choice by a test, lent lists, lists in arrays, laws of tests. No code, only definitions and laws.
+// What no other crate is about: lent lists, lists in arrays, laws of tests. No code, only definitions and laws.
+#![tactic(auto)]

@@ -1,5 +1,7 @@
 // The library for C: include/bordavina.h. Each call is that of a crate below, with its promise; results are structs of numbers,
 // by specs/Results.antt.
+#![tactic(auto)]
+
 mod results;
 
 ghost use Rattle.std.specs.Prelude.{◌≡◌};

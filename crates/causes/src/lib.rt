@@ -1,10 +1,12 @@
 // Why a call is refused: document 01, "What each cause gives", less number 7, which document 02, 2026-01, takes away. The numbers of
 // refusals stand here and nowhere else in the code.
+#![tactic(auto)]
+
 ghost use Rattle.std.specs.Prelude.{◌≡◌};
 ghost use Rattle.causes.specs.Cause.{number_of};
 
 // A cause of document 01's table, in its order. Requests add theirs at the end, with the numbers 12 to 19; none takes 7 again.
-#[derive(Drop)]
+#[derive(Clone, Copy)]
 pub enum Cause {
     // of the file
     FileLength,

@@ -1,6 +1,5 @@
 -- Laws of the verdict, for a pane and a glass of any values.
-use Rattle.std.specs.Prelude.{ℕ, ◌≤◌, ◌<◌, ◌≡◌, Bool, true, false, ltb, eqb}
-use Rattle.basics.specs.Choice.{if◌then◌else◌}
+use Rattle.std.specs.Prelude.{ℕ, ◌≤◌, ◌<◌, ◌≡◌, Bool, true, false, ltb, eqb, if◌then◌else◌}
 use Rattle.job_glass.specs.declared.Glass.{Glass}
 use Rattle.job_pane.specs.declared.Pane.{Pane}
 use Rattle.job_pane.specs.Sides.{in_proportion}
@@ -18,9 +17,9 @@ use Rattle.clauses.specs.declared.judging.Verdict.TheVariants.{Passes, Fails}
 abbrev pub clause_fails : ℕ → Pane → Glass → Bool
 clause_fails n p g =
     if eqb n 1 then kind_fails p g
-    else if eqb n 2 then size_fails p g
-    else if eqb n 3 then point_load_fails p g
-    else uniform_load_fails p g
+    else (if eqb n 2 then size_fails p g
+    else (if eqb n 3 then point_load_fails p g
+    else uniform_load_fails p g))
 
 -- A clause is the first to fail: it fails, and those before it pass.
 pub record FirstToFail (n : ℕ) (p : Pane) (g : Glass) : Type 0 where

@@ -2,6 +2,8 @@
 //
 // `verdict` says whether a glass of a job file may be used for a pane of it. It answers for every list of bytes and any two
 // ids, as specs/VerdictAnswer.antt defines. `judge` and `judge_loaded` say it of a pane and a glass held as values.
+#![tactic(auto)]
+
 mod judging;
 mod kind;
 mod question;

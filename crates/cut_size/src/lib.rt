@@ -1,4 +1,6 @@
 // Clause 2, the size: document 01, "The four clauses"; document 02, 2026-02.
+#![tactic(auto)]
+
 mod covers;
 mod sides;
 

@@ -1,1 +1,2 @@
 // House roofs by wind class: no code, only theorems on a job by class and the same job by pressures.
+#![tactic(auto)]

@@ -1,6 +1,5 @@
 -- The place of an id in a list of ids, counted from 0. Where no id stands twice, there is one at most.
-use Rattle.std.specs.Prelude.{ℕ, ◌+◌, List, [], ◌∷◌, eqb}
-use Rattle.basics.specs.Choice.{if◌then◌else◌}
+use Rattle.std.specs.Prelude.{ℕ, ◌+◌, List, [], ◌∷◌, eqb, if◌then◌else◌}
 use Rattle.ids.specs.declared.IdPlace.{IdPlace}
 use Rattle.ids.specs.declared.IdPlace.TheVariants.{At, Missing}
 

@@ -15,7 +15,7 @@ use lib.ListN.{length, get_or, drop}
 use borrow.Author.Tests.{ltb-false, leb-true, le-ltb, le-leb}
 use Rattle.causes.specs.declared.Cause.{Cause}
 use Rattle.causes.specs.declared.Cause.TheVariants.{FileLength, NoTrailer, PartOffsets}
-use Rattle.basics.specs.Choice.{if◌then◌else◌}
+use Rattle.std.specs.Prelude.{if◌then◌else◌}
 use Rattle.job_part.specs.Part.{Lines, whole, stopped, part_lines}
 use Rattle.job_glass.specs.GlassLine.{glass_form, allowed_glass, blank_glass}
 use Rattle.job_pane.specs.PaneLine.{pane_form, allowed_pane, blank_pane}

@@ -1,8 +1,7 @@
 -- Document 01, "The job file", first paragraph, and "What each cause gives", rows 1 to 3: the whole file, as a list of bytes.
-use Rattle.std.specs.Prelude.{ℕ, ◌+◌, ◌-◌, ◌*◌, Bool, ◌&&◌, ◌||◌, List, leb, ltb, eqb, length, get_or, take, drop}
+use Rattle.std.specs.Prelude.{ℕ, ◌+◌, ◌-◌, ◌*◌, Bool, ◌&&◌, ◌||◌, List, leb, ltb, eqb, length, get_or, take, drop, if◌then◌else◌}
 use Rattle.causes.specs.declared.Cause.{Cause}
 use Rattle.causes.specs.declared.Cause.TheVariants.{FileLength, NoTrailer, PartOffsets}
-use Rattle.basics.specs.Choice.{if◌then◌else◌}
 use Rattle.job_line.specs.Bytes.{newline, space, digit0, letter_t}
 use Rattle.job_line.specs.Number.{is_digit}
 use Rattle.job_part.specs.Part.{whole, stopped, part_lines}

@@ -8,7 +8,7 @@ use job_pane::Pane;
 
 // A job file that was read: what its check says, and its glasses and panes in file order at the front of their arrays. Every
 // other entry is of zeros. A refused file has no glass and no pane.
-#[derive(Drop)]
+#[derive(Clone, Copy)]
 pub struct Job {
     pub checked: Checked,
     pub glasses: [Glass; 64],

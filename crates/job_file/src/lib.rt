@@ -2,6 +2,8 @@
 //
 // `check` says whether a file is accepted, and `read_job` gives its glasses and panes too. Both answer for every list of bytes, as
 // specs/File.antt defines.
+#![tactic(auto)]
+
 mod file;
 mod job;
 mod trailer;
@@ -15,7 +17,7 @@ pub use file::read_job;
 pub use job::{Job, JobNumbers, numbers_of};
 
 // The answer to a check: how many glasses and panes the file has, or why and where it is refused.
-#[derive(Drop)]
+#[derive(Clone, Copy)]
 pub enum Checked {
     Accepted {
         glass_count: usize,

@@ -1,11 +1,13 @@
 // The glass part of a job file: document 01, "The job file".
+#![tactic(auto)]
+
 mod glasses;
 
 pub use glasses::{NO_GLASS, read_glasses};
 use job_part::PartEnd;
 
 // A sheet of glass in the rack: a line `G id kind thick w h two four stock`.
-#[derive(Drop)]
+#[derive(Clone, Copy)]
 pub struct Glass {
     pub id: u32,
     // laminated: 1 annealed, 2 heat-strengthened, 3 toughened; monolithic: 4 toughened

@@ -1,6 +1,6 @@
 -- Digits that are written are read back, and digits that are read were written. Reading takes the digits from the left,
 -- `v * 10 + d`; writing takes them from the right, `n / 10` and `n % 10`; one step of each undoes the other.
---     written_digits_lem             what is written for a number below `10 ^ count` is read as that number
+--     written_digits_lem         what is written for a number below `10 ^ count` is read as that number
 --     no_more_digits             reading ends where no digit follows
 --     digit_back                 writing takes off the digit that reading put on
 --     DigitsRead, digits_read    what was read, as digits that are written
@@ -12,7 +12,7 @@ use native.Mathlib.Omega.{arith}
 use native.Mathlib.Nat.{pow-suc, add-suc, suc-add, mul_assoc}
 use lib.Dec.{leb}
 use borrow.Author.Tests.{leb-true, le-leb}
-use Rattle.basics.specs.Choice.{if◌then◌else◌}
+use Rattle.std.specs.Prelude.{if◌then◌else◌}
 use Rattle.job_line.specs.Bytes.{next, found}
 use Rattle.job_line.specs.Number.{is_digit, digits}
 use Rattle.job_line.specs.WrittenNumber.{written_digits}

@@ -12,7 +12,7 @@ use lib.Dec.{leb, eqb, le→leb}
 use lib.ListN.{length, get_or, drop, drop_of_length-le}
 use lib.Seq.{drop-cons}
 use borrow.Author.Tests.{eqb-true}
-use Rattle.basics.specs.Choice.{if◌then◌else◌}
+use Rattle.std.specs.Prelude.{if◌then◌else◌}
 use Rattle.basics.proofs.Tests.{clash}
 use Rattle.job_line.specs.Bytes.{letter_g, letter_p, letter_q}
 use Rattle.job_glass.specs.GlassLine.{glass_form}

@@ -1,8 +1,8 @@
 -- A line that is written is read back, and a line that is read was written: number after number, each behind a space, which
 -- is no digit and so ends the number before it.
---     Small           numbers up to 99999
---     written_line_lem    what is written for numbers up to 99999 is read as those numbers
---     LineWas, line_read   what is read as numbers is what is written for them, and they are as many as asked for
+--     Small                 numbers up to 99999
+--     written_line_lem      what is written for numbers up to 99999 is read as those numbers
+--     LineWas, line_read    what is read as numbers is what is written for them, and they are as many as asked for
 use Prim.Native.Nat.{ℕ, zero, suc, ◌≤◌, ◌<◌}
 use mathlib.Core.Path.{◌≡◌, refl, sym, ◌∙◌, ap}
 use mathlib.Core.Bool.{Bool, true, false}
@@ -11,7 +11,7 @@ use native.Mathlib.Omega.{arith}
 use lib.Dec.{leb, eqb, leb→le}
 use lib.ListN.{length}
 use borrow.Author.Tests.{eqb-true}
-use Rattle.basics.specs.Choice.{if◌then◌else◌}
+use Rattle.std.specs.Prelude.{if◌then◌else◌}
 use Rattle.job_line.specs.Bytes.{newline, space, next, behind, Found, found, nothing}
 use Rattle.job_line.specs.Number.{is_digit, number}
 use Rattle.job_line.specs.Line.{numbers, ended, line}

@@ -1,7 +1,7 @@
 -- A number that is written is read back, and a number that is read was written. A number up to 99999 other than 0 has a
 -- first digit other than 0, and then as many digits as its size says, so there is one way to write it.
---     written_number_lem       what is written for a number up to 99999 is read as that number, if no digit follows
---     number_read          what is read as a number is what is written for it
+--     written_number_lem    what is written for a number up to 99999 is read as that number, if no digit follows
+--     number_read           what is read as a number is what is written for it
 use Prim.Native.Nat.{ℕ, zero, suc, ◌+◌, ◌-◌, ◌*◌, ◌/◌, ◌%◌, ◌^◌, ◌≤◌, ◌<◌}
 use mathlib.Core.Path.{◌≡◌, refl, ◌∙◌, ap}
 use mathlib.Core.Bool.{Bool, true, false, ◌&&◌}
@@ -10,7 +10,7 @@ use native.Mathlib.Omega.{arith}
 use native.Mathlib.Nat.{pow-suc, zero-add}
 use lib.Dec.{leb, ltb, eqb}
 use borrow.Author.Tests.{leb-true, eqb-true, eqb-false, lt-ltb, le-ltb, le-leb, ne_eqb, ltb-true, ltb-false}
-use Rattle.basics.specs.Choice.{if◌then◌else◌}
+use Rattle.std.specs.Prelude.{if◌then◌else◌}
 use Rattle.job_line.specs.Bytes.{next, found, nothing}
 use Rattle.job_line.specs.Number.{is_digit, digits, number}
 use Rattle.basics.proofs.Tests.{clash}
@@ -101,7 +101,7 @@ number_read (b ∷ bytes) n rest e = go (eqb b 48) (leb 48 b) (leb b 57) refl re
 
     go :
         (nought low high : Bool) → eqb b 48 ≡ nought → leb 48 b ≡ low → leb b 57 ≡ high →
-        (if nought then found 0 bytes else if low && high then digits 4 (b - 48) bytes else nothing) ≡ found n rest →
+        (if nought then found 0 bytes else (if low && high then digits 4 (b - 48) bytes else nothing)) ≡ found n rest →
         b ∷ bytes ≡ written_number n ++ rest
     go true low high o p q f =
         let is0 : 0 ≡ n = cc in

@@ -1,8 +1,8 @@
 -- A part that is written is read back, and a part that is read was written, for any form whose entries are their lines'
 -- numbers: one line after the other.
---     Writer           a form, and the letter and the numbers that are written for an entry
---     written_part_lem     what is written for entries that keep the part's rules is read as those entries
---     part_read        what is read as entries is what is written for them
+--     Writer              a form, and the letter and the numbers that are written for an entry
+--     written_part_lem    what is written for entries that keep the part's rules is read as those entries
+--     part_read           what is read as entries is what is written for them
 use Prim.Native.Nat.{ℕ, zero, suc, ◌≤◌}
 use mathlib.Core.Path.{◌≡◌, refl, sym, ◌∙◌, ap}
 use mathlib.Core.Bool.{true, false}

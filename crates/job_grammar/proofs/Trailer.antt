@@ -1,8 +1,8 @@
 -- A trailer that is written is read back, and bytes that are read as a trailer are what is written for its two offsets: five
 -- digits and the number that they make give each other.
---     length_trailer     a trailer has 14 bytes
+--     length_trailer         a trailer has 14 bytes
 --     written_trailer_lem    what is written for two offsets below 100000 is read as those offsets
---     trailer_read       bytes that are read as two offsets are what is written for them
+--     trailer_read           bytes that are read as two offsets are what is written for them
 use Prim.Native.Nat.{ℕ, zero, suc, ◌+◌, ◌-◌, ◌*◌, ◌/◌, ◌%◌, ◌^◌, ◌<◌}
 use mathlib.Core.Path.{◌≡◌, refl, ◌∙◌, ap}
 use mathlib.Core.Bool.{Bool, true, false, ◌&&◌}
@@ -12,7 +12,7 @@ use lib.Dec.{eqb}
 use lib.ListN.{length, get_or, drop, drop_of_length-le}
 use lib.Seq.{drop-cons}
 use borrow.Author.Tests.{eqb-true, le-leb}
-use Rattle.basics.specs.Choice.{if◌then◌else◌}
+use Rattle.std.specs.Prelude.{if◌then◌else◌}
 use Rattle.basics.proofs.Tests.{clash, both_true}
 use Rattle.job_line.specs.Bytes.{newline, space, letter_t}
 use Rattle.job_line.specs.Number.{is_digit}

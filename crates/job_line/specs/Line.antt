@@ -1,6 +1,5 @@
 -- Document 01, "The job file": a line, from its letter to its newline, with as many numbers as its form has.
-use Rattle.std.specs.Prelude.{ℕ, zero, suc, Bool, List, [], ◌∷◌, ◌++◌, eqb}
-use Rattle.basics.specs.Choice.{if◌then◌else◌}
+use Rattle.std.specs.Prelude.{ℕ, zero, suc, Bool, List, [], ◌∷◌, ◌++◌, eqb, if◌then◌else◌}
 use Rattle.job_line.specs.Bytes.{newline, space, next, behind, Found, found, nothing}
 use Rattle.job_line.specs.Number.{number}
 

@@ -1,6 +1,5 @@
 -- Document 01, "The job file": a number of one to five digits, the first of which is not 0; or the digit 0 alone.
-use Rattle.std.specs.Prelude.{ℕ, zero, suc, ◌+◌, ◌-◌, ◌*◌, Bool, ◌&&◌, List, leb, eqb}
-use Rattle.basics.specs.Choice.{if◌then◌else◌}
+use Rattle.std.specs.Prelude.{ℕ, zero, suc, ◌+◌, ◌-◌, ◌*◌, Bool, ◌&&◌, List, leb, eqb, if◌then◌else◌}
 use Rattle.job_line.specs.Bytes.{digit0, digit9, next, behind, Found, found, nothing}
 
 abbrev pub is_digit : ℕ → Bool
@@ -18,5 +17,5 @@ digits (suc left) value bytes =
 unfoldable pub number : List ℕ → Found ℕ
 number bytes =
     if eqb (next bytes) digit0 then found 0 (behind bytes)
-    else if is_digit (next bytes) then digits 4 (next bytes - digit0) (behind bytes)
-    else nothing
+    else (if is_digit (next bytes) then digits 4 (next bytes - digit0) (behind bytes)
+    else nothing)

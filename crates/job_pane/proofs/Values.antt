@@ -1,5 +1,5 @@
 -- A pane whose numbers pass the test has them within their bounds.
---     allowed_id      its id
+--     allowed_id          its id
 --     allowed_pane_lem    all of them
 use Prim.Native.Nat.{◌≤◌}
 use native.Mathlib.Omega.{arith}

@@ -1,4 +1,6 @@
 // The pane part of a job file: document 01, "The job file", and document 02, 2026-03.
+#![tactic(auto)]
+
 mod panes;
 mod winds;
 
@@ -7,7 +9,7 @@ pub use panes::{NO_PANE, read_panes};
 pub use winds::is_allowed_wind;
 
 // The wind on a pane, as its line states it.
-#[derive(Drop)]
+#[derive(Clone, Copy)]
 pub enum Wind {
     // a `P` line: ultimate pressures, in units of 0.01 kPa
     ByPressure { down: u32, up: u32 },
@@ -16,7 +18,7 @@ pub enum Wind {
 }
 
 // A pane of the roof: a line `P id edges angle awning top w h down up`, or `Q id edges angle awning top w h class zone`.
-#[derive(Drop)]
+#[derive(Clone, Copy)]
 pub struct Pane {
     pub id: u32,
     // supported edges, 2 or 4

@@ -9,7 +9,7 @@ use mathlib.Core.Bool.{Bool, true, false}
 use mathlib.Core.List.{List, []}
 use borrow.Author.Tests.{eqb-true, eq-eqb}
 use lib.Dec.{eqb}
-use Rattle.basics.specs.Choice.{if◌then◌else◌}
+use Rattle.std.specs.Prelude.{if◌then◌else◌}
 use Rattle.basics.proofs.Tests.{clash}
 use Rattle.causes.specs.declared.Cause.TheVariants.{LineForm, NumberValue, RepeatedId}
 use Rattle.job_line.specs.Bytes.{next, behind, found, nothing}

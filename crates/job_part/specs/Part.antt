@@ -1,10 +1,9 @@
 -- Document 01, "The job file" and "What each cause gives", rows 4, 5, 6 and 8 (row 7 went with document 02, 2026-01): a part and its lines,
 -- which are judged one after the other. The glass part and the pane part differ in what a `Form` has, and in nothing else.
-use Rattle.std.specs.Prelude.{ℕ, zero, suc, ◌-◌, Bool, true, false, not, ◌&&◌, List, [], ◌∷◌, ◌++◌, map, leb, length}
+use Rattle.std.specs.Prelude.{ℕ, zero, suc, ◌-◌, Bool, true, false, not, ◌&&◌, List, [], ◌∷◌, ◌++◌, map, leb, length, if◌then◌else◌}
 use Rattle.causes.specs.declared.Cause.{Cause}
 use Rattle.ids.specs.Ids.{among}
 use Rattle.causes.specs.declared.Cause.TheVariants.{LineForm, NumberValue, RepeatedId, TooManyLines}
-use Rattle.basics.specs.Choice.{if◌then◌else◌}
 use Rattle.job_line.specs.Bytes.{next, found, nothing}
 use Rattle.job_line.specs.Line.{line}
 
@@ -33,8 +32,8 @@ pub data Judged (A : Type 0) : Type 0 where
 unfoldable pub judged_entry : {A : Type 0} (form : Form A) (ids : List ℕ) (x : A) (rest : List ℕ) → Judged A
 judged_entry form ids x rest =
     if not (form.allowed x) then faulty NumberValue
-    else if among (form.id x) ids then faulty RepeatedId
-    else taken x rest
+    else (if among (form.id x) ids then faulty RepeatedId
+    else taken x rest)
 
 -- The line at the front of some bytes: cause 4, and then the others.
 unfoldable pub judged : {A : Type 0} (form : Form A) (ids bytes : List ℕ) → Judged A

@@ -1,6 +1,13 @@
-// What the programs that are given the names of job files share: reading such a file, and the words that they write.
+// What the programs share: reading a job, from standard input or from the file that an argument names, and the words that they
+// write.
+#![tactic(auto)]
+
 mod argument;
+mod input;
 mod words;
 
-pub use argument::{FileRead, read_argument, write_argument, write_name, write_unread};
+pub use argument::{
+    FileRead, argument_count, read_argument, write_argument, write_name, write_unread,
+};
+pub use input::read_input;
 pub use words::{say, say_cause, say_number, write, write_number, write_refusal};

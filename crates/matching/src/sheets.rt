@@ -1,6 +1,5 @@
 // Which glasses have a sheet to spare.
-ghost use Rattle.std.specs.Prelude.{◌<◌, ltb, eqb, get_or};
-ghost use Rattle.basics.specs.Choice.{if◌then◌else◌};
+ghost use Rattle.std.specs.Prelude.{◌<◌, ltb, eqb, get_or, if◌then◌else◌};
 ghost use Rattle.glass_set.specs.Internal.Member.{has, Members};
 
 use glass_set::{with, without};

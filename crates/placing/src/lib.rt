@@ -2,6 +2,8 @@
 //
 // `place` gives the panes of a job file sheets. It answers for every list of bytes and any two lent lists, as
 // specs/Promise.antt says. `place_panes` does it for a job that was read: the rows of its panes, and then `place_rows`.
+#![tactic(auto)]
+
 mod rows;
 
 ghost use Rattle.std.specs.Prelude.{◌≤◌, length};

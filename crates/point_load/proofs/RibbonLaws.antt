@@ -8,7 +8,7 @@ use native.Mathlib.Omega.{arith}
 use native.Mathlib.Nat.{le_trans}
 use lib.Dec.{leb, eqb}
 use borrow.Author.Tests.{eqb-false, leb-false, ltb-false, le-ltb}
-use Rattle.basics.specs.Choice.{if◌then◌else◌}
+use Rattle.std.specs.Prelude.{if◌then◌else◌}
 use Rattle.basics.proofs.Tests.{clash, both_false}
 use Rattle.job_glass.specs.declared.Glass.{Glass}
 use Rattle.job_pane.specs.declared.Pane.{Pane}
@@ -23,8 +23,8 @@ use Rattle.point_load.proofs.Columns.{over_thrice, column_high}
 -- The column of a pane in proportion, by the four tests.
 same_column :
     (two equal twice thrice : Bool) → two || thrice ≡ true →
-    (if two then two_edge else if equal then AR=1 else if twice then AR=2 else if thrice then AR=3 else two_edge)
-    ≡ (if two then two_edge else if equal then AR=1 else if twice then AR=2 else AR=3)
+    (if two then two_edge else (if equal then AR=1 else (if twice then AR=2 else (if thrice then AR=3 else two_edge))))
+    ≡ (if two then two_edge else (if equal then AR=1 else (if twice then AR=2 else AR=3)))
 same_column true equal twice thrice e = refl
 same_column false equal twice true e = refl
 same_column false equal twice false e = clash (cc)

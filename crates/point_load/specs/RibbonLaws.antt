@@ -1,6 +1,5 @@
 -- Laws of clause 3 about ribbons, panes with four edges that are over 3 times as long as wide: document 02, 2026-01.
-use Rattle.std.specs.Prelude.{ℕ, ◌*◌, ◌≤◌, ◌<◌, min, max, ◌≡◌, true, false, leb, eqb}
-use Rattle.basics.specs.Choice.{if◌then◌else◌}
+use Rattle.std.specs.Prelude.{ℕ, ◌*◌, ◌≤◌, ◌<◌, min, max, ◌≡◌, true, false, leb, eqb, if◌then◌else◌}
 use Rattle.job_glass.specs.declared.Glass.{Glass}
 use Rattle.job_pane.specs.declared.Pane.{Pane}
 use Rattle.job_pane.specs.Sides.{in_proportion}
@@ -11,9 +10,9 @@ use Rattle.point_load.specs.PointLoad.{entry_in, point_load_fails}
 abbrev pub column_before : Pane → ℕ
 column_before p =
     if eqb p.edges 2 then two_edge
-    else if eqb p.w p.h then AR=1
-    else if leb (max p.w p.h) (2 * min p.w p.h) then AR=2
-    else AR=3
+    else (if eqb p.w p.h then AR=1
+    else (if leb (max p.w p.h) (2 * min p.w p.h) then AR=2
+    else AR=3))
 
 -- Two panes have the same slope, and both are on an awning or neither is.
 pub record SameLoad (p q : Pane) : Type 0 where

@@ -1,6 +1,5 @@
 -- Document 01, "The four clauses", clause 3, and document 02, 2026-01: the column that a pane reads, and its span.
-use Rattle.std.specs.Prelude.{ℕ, ◌*◌, min, max, leb, eqb}
-use Rattle.basics.specs.Choice.{if◌then◌else◌}
+use Rattle.std.specs.Prelude.{ℕ, ◌*◌, min, max, leb, eqb, if◌then◌else◌}
 use Rattle.job_pane.specs.declared.Pane.{Pane}
 
 -- The columns of Tables 6.2 to 6.5, in their order.
@@ -21,10 +20,10 @@ two_edge = 3
 abbrev pub column_of : Pane → ℕ
 column_of p =
     if eqb p.edges 2 then two_edge
-    else if eqb p.w p.h then AR=1
-    else if leb (max p.w p.h) (2 * min p.w p.h) then AR=2
-    else if leb (max p.w p.h) (3 * min p.w p.h) then AR=3
-    else two_edge
+    else (if eqb p.w p.h then AR=1
+    else (if leb (max p.w p.h) (2 * min p.w p.h) then AR=2
+    else (if leb (max p.w p.h) (3 * min p.w p.h) then AR=3
+    else two_edge)))
 
 -- The span B: between the two supports, or else along the shorter side.
 abbrev pub span_of : Pane → ℕ

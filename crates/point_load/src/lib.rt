@@ -1,4 +1,6 @@
 // Clause 3, the point load: document 01, "The four clauses"; AS 1288, 6.5.4.
+#![tactic(auto)]
+
 mod live_load;
 mod sides;
 mod support;
@@ -15,7 +17,7 @@ use support::column;
 pub use support::span;
 
 // What clause 3 reads of a pane, for every glass that it is tried with.
-#[derive(Drop)]
+#[derive(Clone, Copy)]
 pub struct PointLoad {
     // live, in tenths of a kN
     pub load: u32,

@@ -1,1 +1,2 @@
 // Sums, counts and tests over the numbers below a bound: no code, only definitions and their laws.
+#![tactic(auto)]

@@ -1,6 +1,8 @@
 // The text that `canopy` prints: document 01, "The program `canopy`".
 //
 // `report` goes from the bytes of a job file to the text, for every list of bytes, as specs/Reported.antt says.
+#![tactic(auto)]
+
 mod line;
 mod number;
 mod text;

@@ -9,7 +9,7 @@ use mathlib.Core.List.{List, [], ◌∷◌}
 use native.Mathlib.Omega.{arith}
 use lib.Dec.{eqb}
 use lib.ListN.{length, get_or}
-use Rattle.basics.specs.Choice.{if◌then◌else◌}
+use Rattle.std.specs.Prelude.{if◌then◌else◌}
 use Rattle.ranges.specs.Ranges.{sum_to}
 use Rattle.ranges.specs.Internal.Counts.{one, count_to}
 use Rattle.ranges.proofs.Sums.{sum_front}

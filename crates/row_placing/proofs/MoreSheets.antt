@@ -6,7 +6,7 @@ use mathlib.Core.Bool.{Bool, true, false}
 use mathlib.Core.List.{List}
 use native.Mathlib.Omega.{arith}
 use lib.ListN.{length, get_or}
-use Rattle.basics.specs.Choice.{if◌then◌else◌}
+use Rattle.std.specs.Prelude.{if◌then◌else◌}
 use Rattle.ranges.specs.Ranges.{sum_to}
 use Rattle.ranges.proofs.Sums.{sum_le, sum_add}
 use Rattle.row_placing.specs.Schedule.{Schedule}

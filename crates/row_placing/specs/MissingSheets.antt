@@ -1,7 +1,6 @@
 -- How many sheets are missing where panes are left over: what follows from request 2026-05 for who orders more. Fewer sheets more than panes
 -- are left over are never enough. As many are, if some glass passes for each of these panes: one sheet more of it, whichever it is.
-use Rattle.std.specs.Prelude.{ℕ, ◌+◌, ◌-◌, ◌≤◌, ◌<◌, ◌≡◌, true, ◌&&◌, List, eqb, length, get_or}
-use Rattle.basics.specs.Choice.{if◌then◌else◌}
+use Rattle.std.specs.Prelude.{ℕ, ◌+◌, ◌-◌, ◌≤◌, ◌<◌, ◌≡◌, true, ◌&&◌, List, eqb, length, get_or, if◌then◌else◌}
 use Rattle.ids.specs.Ids.{Distinct}
 use Rattle.ranges.specs.Ranges.{sum_to}
 use Rattle.row_placing.specs.Schedule.{Schedule}

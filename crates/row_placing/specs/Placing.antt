@@ -1,7 +1,6 @@
 -- Document 01, "The placing", and demand 2: what may be given to panes. A pane has no glass but one that passes for it, and a glass goes
 -- to no more panes than it has sheets.
-use Rattle.std.specs.Prelude.{ℕ, ◌+◌, ◌≤◌, ◌<◌, ◌≡◌, ◌⊎◌, true, List, [], ◌∷◌, eqb, length, get_or}
-use Rattle.basics.specs.Choice.{if◌then◌else◌}
+use Rattle.std.specs.Prelude.{ℕ, ◌+◌, ◌≤◌, ◌<◌, ◌≡◌, ◌⊎◌, true, List, [], ◌∷◌, eqb, length, get_or, if◌then◌else◌}
 use Rattle.row_placing.specs.Schedule.{Schedule}
 
 -- How often an id stands in a list.

@@ -1,7 +1,6 @@
 -- Document 01, "The placing", and demand 3: why panes can't all be placed. All glasses that pass for at least one pane of a group have
 -- fewer sheets together than the group has panes. A group is a list of pane ids.
-use Rattle.std.specs.Prelude.{ℕ, ◌-◌, ◌<◌, ◌≡◌, Bool, ◌&&◌, List, length, get_or}
-use Rattle.basics.specs.Choice.{if◌then◌else◌}
+use Rattle.std.specs.Prelude.{ℕ, ◌-◌, ◌<◌, ◌≡◌, Bool, ◌&&◌, List, length, get_or, if◌then◌else◌}
 use Rattle.ids.specs.Ids.{among, Distinct}
 use Rattle.ranges.specs.Ranges.{sum_to, any_to}
 use Rattle.row_placing.specs.Schedule.{Schedule}

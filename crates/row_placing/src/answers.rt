@@ -1,6 +1,5 @@
 // The answers: what is written for each pane.
-ghost use Rattle.std.specs.Prelude.{◌≡◌, ◌≤◌, eqb, length};
-ghost use Rattle.basics.specs.Choice.{if◌then◌else◌};
+ghost use Rattle.std.specs.Prelude.{◌≡◌, ◌≤◌, eqb, length, if◌then◌else◌};
 ghost use Rattle.basics.specs.Lent.{lent};
 ghost use Rattle.row_placing.specs.Internal.Steps.{Answered};
 

@@ -1,6 +1,5 @@
 -- Document 01, "The four clauses", clause 4, uniform load (AS 1288, 6.5.5). Pressures are in units of 0.01 kPa.
-use Rattle.std.specs.Prelude.{ℕ, ◌+◌, ◌-◌, ◌*◌, max, Bool, ltb, eqb}
-use Rattle.basics.specs.Choice.{if◌then◌else◌}
+use Rattle.std.specs.Prelude.{ℕ, ◌+◌, ◌-◌, ◌*◌, max, Bool, ltb, eqb, if◌then◌else◌}
 use Rattle.job_glass.specs.declared.Glass.{Glass}
 use Rattle.job_pane.specs.declared.Pane.{Pane}
 use Rattle.dead_loads.specs.DeadLoads.{maximum_at, minimum_at}

@@ -1,4 +1,6 @@
 // Clause 4, the uniform load: document 01, "The four clauses"; AS 1288, 6.5.5 and Tables 6.1 and A2.
+#![tactic(auto)]
+
 mod glass_loads;
 mod pressure;
 mod wind;
@@ -17,7 +19,7 @@ use wind::pressures_of;
 use wind_classes::Pressures;
 
 // What clause 4 reads of a pane, for every glass that it is tried with.
-#[derive(Drop)]
+#[derive(Clone, Copy)]
 pub struct UniformLoad {
     // supported edges, 2 or 4
     pub edges: u32,

@@ -1,6 +1,5 @@
 -- Document 02, 2026-03: the pressures of a wind class, 1 to 10 for N1 to N6 and C1 to C4, in zone 1 or 2.
-use Rattle.std.specs.Prelude.{ℕ, ◌-◌, eqb, get_or}
-use Rattle.basics.specs.Choice.{if◌then◌else◌}
+use Rattle.std.specs.Prelude.{ℕ, ◌-◌, eqb, get_or, if◌then◌else◌}
 use Rattle.wind_classes.specs.RoofPressures.{RoofRow, roof_row, roof_rows}
 use Rattle.wind_classes.specs.declared.Pressures.{Pressures}
 

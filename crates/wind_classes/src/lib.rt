@@ -1,9 +1,11 @@
 // The wind pressures on the roof of a house by its wind class: Table A2 of AS 1288, as specs/RoofPressures.antt has it.
+#![tactic(auto)]
+
 ghost use Rattle.std.specs.Prelude.{◌≡◌, ◌≤◌};
 ghost use Rattle.wind_classes.specs.ClassPressures.{class_pressures};
 
 // Ultimate wind pressures, in units of 0.01 kPa.
-#[derive(Drop)]
+#[derive(Clone, Copy)]
 pub struct Pressures {
     pub down: u32,
     pub up: u32,

@@ -1,6 +1,5 @@
 -- Where an offset lies, as an editor counts lines.
-use Rattle.std.specs.Prelude.{ℕ, ◌+◌, List, [], ◌∷◌, eqb, take}
-use Rattle.basics.specs.Choice.{if◌then◌else◌}
+use Rattle.std.specs.Prelude.{ℕ, ◌+◌, List, [], ◌∷◌, eqb, take, if◌then◌else◌}
 use Rattle.job_line.specs.Bytes.{newline}
 
 unfoldable pub newlines : List ℕ → ℕ

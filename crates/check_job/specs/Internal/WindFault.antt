@@ -1,6 +1,5 @@
 -- What is wrong with the wind that a `Q` line states: its class, or else its zone.
-use Rattle.std.specs.Prelude.{ℕ, List, get_or}
-use Rattle.basics.specs.Choice.{if◌then◌else◌}
+use Rattle.std.specs.Prelude.{ℕ, List, get_or, if◌then◌else◌}
 use Rattle.job_line.specs.Bytes.{Found, found, nothing}
 use Rattle.job_pane.specs.StatedWind.{allowed_wind}
 use Rattle.job_pane.specs.declared.Wind.TheVariants.{ByClass}
@@ -11,8 +10,8 @@ use Rattle.check_job.specs.declared.wind.WindFault.TheVariants.{NoClass, NoZone,
 abbrev pub fault_of : (class zone : ℕ) → WindFault
 fault_of class zone =
     if allowed_wind (ByClass class zone) then NoFault
-    else if allowed_wind (ByClass class 1) then NoZone
-    else NoClass
+    else (if allowed_wind (ByClass class 1) then NoZone
+    else NoClass)
 
 -- By what was found of the line: its last two of nine numbers are the class and the zone.
 abbrev pub line_fault : Found (List ℕ) → WindFault

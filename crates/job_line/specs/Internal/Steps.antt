@@ -1,7 +1,6 @@
 -- What reading at a position of a slice promises: what the definition finds at the front of the bytes from there on. The
 -- position that is answered is within the slice.
-use Rattle.std.specs.Prelude.{ℕ, zero, suc, ◌≤◌, ◌≡◌, List, [], ◌∷◌, eqb, length, take, drop}
-use Rattle.basics.specs.Choice.{if◌then◌else◌}
+use Rattle.std.specs.Prelude.{ℕ, zero, suc, ◌≤◌, ◌≡◌, List, [], ◌∷◌, eqb, length, take, drop, if◌then◌else◌}
 use Rattle.basics.specs.Lent.{Lent}
 use Rattle.basics.specs.Internal.Arrays.{written}
 use Rattle.job_line.specs.Bytes.{space, next, behind, Found, found, nothing}

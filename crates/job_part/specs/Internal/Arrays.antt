@@ -1,6 +1,5 @@
 -- What reading a part promises: how it ends, and the array that it fills.
-use Rattle.std.specs.Prelude.{ℕ, zero, suc, ◌≡◌, List, [], ◌∷◌, ◌++◌, map, length}
-use Rattle.basics.specs.Choice.{if◌then◌else◌}
+use Rattle.std.specs.Prelude.{ℕ, zero, suc, ◌≡◌, List, [], ◌∷◌, ◌++◌, map, length, if◌then◌else◌}
 use Rattle.basics.specs.Internal.Arrays.{padded}
 use Rattle.job_part.specs.Part.{Form, taken, faulty, judged, Lines, whole, stopped, is_empty, part_lines}
 use Rattle.job_part.specs.declared.PartEnd.{PartEnd}

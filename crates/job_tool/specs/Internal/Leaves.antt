@@ -1,6 +1,6 @@
 -- What reading a file leaves in the buffer. Which bytes a read of the system puts there, no contract can say.
 use Rattle.std.specs.Prelude.{◌≡◌, List, ℕ}
-use Rattle.io.specs.Counts.{IsPrefixLen}
+use Rattle.job_tool.specs.Internal.Counts.{IsPrefixLen}
 use Rattle.job_tool.specs.declared.argument.FileRead.{FileRead}
 use Rattle.job_tool.specs.declared.argument.FileRead.TheVariants.{Bytes, NotOpened, NotRead}
 

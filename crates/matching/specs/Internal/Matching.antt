@@ -1,7 +1,6 @@
 -- Document 01, "The placing", of panes and glasses by their numbers, counted from 0. Nothing here knows of a file, a verdict or
 -- a row: which glass passes for which pane and how many sheets there are of each is given.
-use Rattle.std.specs.Prelude.{ℕ, ◌+◌, ◌≤◌, ◌<◌, ◌≡◌, Bool, true, false, not, ◌||◌, ltb, eqb}
-use Rattle.basics.specs.Choice.{if◌then◌else◌}
+use Rattle.std.specs.Prelude.{ℕ, ◌+◌, ◌≤◌, ◌<◌, ◌≡◌, Bool, true, false, not, ◌||◌, ltb, eqb, if◌then◌else◌}
 use Rattle.ranges.specs.Ranges.{sum_to}
 use Rattle.ranges.specs.Internal.Counts.{count_to, all_to}
 

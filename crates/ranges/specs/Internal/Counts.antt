@@ -1,6 +1,5 @@
 -- Counts and tests over the numbers below a bound.
-use Rattle.std.specs.Prelude.{ℕ, zero, suc, Bool, true, ◌&&◌}
-use Rattle.basics.specs.Choice.{if◌then◌else◌}
+use Rattle.std.specs.Prelude.{ℕ, zero, suc, Bool, true, ◌&&◌, if◌then◌else◌}
 use Rattle.ranges.specs.Ranges.{sum_to}
 
 -- What a test adds to a count.

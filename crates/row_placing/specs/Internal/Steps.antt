@@ -1,6 +1,5 @@
 -- What `write_answers` leaves, and what the group list is to get: document 01, "The placing".
-use Rattle.std.specs.Prelude.{ℕ, ◌≡◌, Bool, List, [], eqb, length, get_or}
-use Rattle.basics.specs.Choice.{if◌then◌else◌}
+use Rattle.std.specs.Prelude.{ℕ, ◌≡◌, Bool, List, [], eqb, length, get_or, if◌then◌else◌}
 use Rattle.rising_ids.specs.Internal.Listing.{list_to, rising}
 use Rattle.glass_set.specs.Internal.Member.{is_within}
 use Rattle.row_placing.specs.Internal.Entries.{entries_at}

@@ -1,4 +1,4 @@
--- `find::find_id` meets its contract. The loop's invariant: looking from `i` on gives the place in the whole list.
+-- `find::find_id` meets its contract, by the loop's invariant: looking from `i` on gives the place in the whole list.
 use native.Mathlib.Omega.{arith}
 use mathlib.Core.Path.{refl, sym, ◌∙◌}
 use Rattle.ids.proofs.Lookups.{place_here, place_next, place_end}

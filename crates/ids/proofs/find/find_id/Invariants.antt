@@ -1,4 +1,4 @@
--- `find::find_id` meets its contract. The loop's invariant: looking from `i` on gives the place in the whole list.
+-- `find::find_id`: of its loop holds that looking from `i` on gives the place in the whole list.
 use Prim.Native.Nat.{◌-◌, ◌≤◌}
 use mathlib.Core.Path.{◌≡◌}
 use lib.ListN.{length, drop}

@@ -47,7 +47,7 @@ returns-then-byte_at-ne10 c =
 pub returns : goal.returns
 returns c =
     let l = c.loop-n in
-    scan_end _ _ _ _ _ _ _ _ l.invariant c.byte_at-2.result c.byte_at-2.ensures (omega arith) c.if-byte_at-ne10.false
+    scan_end _ _ _ _ _ _ _ _ l.invariant c.byte_at-2.result c.byte_at-2.ensures (omega arith) (assumption)
 
 pub overflow_add-at : goal.overflow_add-at
 overflow_add-at c = omega (arith, (loop-n-init c).inside)

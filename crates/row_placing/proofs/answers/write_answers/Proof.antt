@@ -7,7 +7,7 @@ use mathlib.Core.Path.{◌≡◌, refl, sym, ◌∙◌}
 use lib.Dec.{eqb}
 use lib.ListN.{length, get_or, set, take, length-set, get_or-eq_default}
 use lib.Seq.{take_all}
-use Rattle.basics.specs.Choice.{if◌then◌else◌}
+use Rattle.std.specs.Prelude.{if◌then◌else◌}
 use Rattle.basics.specs.Lent.{lent}
 use Rattle.row_placing.specs.Internal.Steps.{Answered}
 use Rattle.row_placing.proofs.Writes.{answered_none, answered_next, answered_le}

@@ -1,0 +1,30 @@
+-- `glasses::judge_glass` meets its contract: at each return the tests that led there say which cause it is, or none.
+use mathlib.Core.Path.{sym, subst⁻¹, ◌∙◌}
+use Rattle.job_glass.specs.GlassLine.{glass_form}
+use lib.Dec.{T}
+use Rattle.job_part.proofs.Judging.{entry_value, entry_repeated, entry_taken}
+use Rattle.job_glass.proofs.Values.{allowed_glass_lem}
+use Rattle.job_glass.proofs.glasses.judge_glass.Goals as goal
+
+-- the id of an allowed glass is one of the set's
+pub is_seen-requires : goal.is_seen-requires
+is_seen-requires c =
+    let allowed = subst⁻¹ T (sym c.is_allowed.ensures ∙ c.if-is_allowed.true) tt in
+    (allowed_glass_lem c.args.glass allowed).id_high
+
+pub returns-then-is_seen : goal.returns-then-is_seen
+returns-then-is_seen c ids set bytes within =
+    entry_repeated glass_form _ _ _
+    (sym c.is_allowed.ensures ∙ c.if-is_allowed.true)
+    (sym (c.is_seen.ensures ids set) ∙ c.if-is_seen.true)
+
+pub returns-else-is_seen : goal.returns-else-is_seen
+returns-else-is_seen c ids set bytes within = (
+  entry_taken glass_form _ _ _
+      (sym c.is_allowed.ensures ∙ c.if-is_allowed.true)
+      (sym (c.is_seen.ensures ids set) ∙ c.if-is_seen.false),
+  within,
+)
+
+pub returns-else-is_allowed : goal.returns-else-is_allowed
+returns-else-is_allowed c ids set bytes within = entry_value glass_form _ _ _ (sym c.is_allowed.ensures ∙ c.if-is_allowed.false)
