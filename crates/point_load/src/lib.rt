@@ -17,7 +17,7 @@ use support::column;
 pub use support::span;
 
 // What clause 3 reads of a pane, for every glass that it is tried with.
-#[derive(Drop)]
+#[derive(Clone, Copy)]
 pub struct PointLoad {
     // live, in tenths of a kN
     pub load: u32,

@@ -19,7 +19,7 @@ use wind::pressures_of;
 use wind_classes::Pressures;
 
 // What clause 4 reads of a pane, for every glass that it is tried with.
-#[derive(Drop)]
+#[derive(Clone, Copy)]
 pub struct UniformLoad {
     // supported edges, 2 or 4
     pub edges: u32,

@@ -5,7 +5,7 @@ ghost use Rattle.std.specs.Prelude.{◌≡◌, ◌≤◌};
 ghost use Rattle.wind_classes.specs.ClassPressures.{class_pressures};
 
 // Ultimate wind pressures, in units of 0.01 kPa.
-#[derive(Drop)]
+#[derive(Clone, Copy)]
 pub struct Pressures {
     pub down: u32,
     pub up: u32,
