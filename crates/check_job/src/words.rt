@@ -4,30 +4,32 @@ use crate::wind::{WindFault, line_fault};
 use causes::{Cause, number_of};
 use job_tool::{say, say_number};
 
-pub(crate) fn explain(cause: Cause, file: &[u8], offset: usize) {
-    say(b"line ");
-    say_number(line_number(file, offset) as u64);
-    say(b", byte ");
-    say_number(offset as u64);
-    say(b" (counted from 0): cause ");
-    say_number(number_of(cause) as u64);
-    say(b", ");
-    job_tool::say_cause(cause);
+pub(crate) fn explain(rt: &impl Eprint, cause: Cause, file: &[u8], offset: usize) {
+    say(rt, b"line ");
+    say_number(rt, line_number(file, offset) as u64);
+    say(rt, b", byte ");
+    say_number(rt, offset as u64);
+    say(rt, b" (counted from 0): cause ");
+    say_number(rt, number_of(cause) as u64);
+    say(rt, b", ");
+    job_tool::say_cause(rt, cause);
     match cause {
-        Cause::NumberValue => say_wind(line_fault(file, offset)),
-        Cause::LineForm => say_letter(file, offset),
+        Cause::NumberValue => say_wind(rt, line_fault(file, offset)),
+        Cause::LineForm => say_letter(rt, file, offset),
         _ => {}
     }
-    say(b"\n");
+    say(rt, b"\n");
 }
 
 // The classes or the zones that there are, where a line has another.
-fn say_wind(fault: WindFault) {
+fn say_wind(rt: &impl Eprint, fault: WindFault) {
     match fault {
         WindFault::NoClass => say(
+            rt,
             b"; the class of a Q line is 1 to 6 for N1 to N6, or 7 to 10 for C1 to C4",
         ),
         WindFault::NoZone => say(
+            rt,
             b"; the zone of a Q line is 1, away from the edges of the roof, or 2, up to 1.2 m from one",
         ),
         WindFault::NoFault => {}
@@ -35,10 +37,10 @@ fn say_wind(fault: WindFault) {
 }
 
 // Of a line that begins with `Q`: its class may have been written by its name.
-fn say_letter(file: &[u8], offset: usize) {
+fn say_letter(rt: &impl Eprint, file: &[u8], offset: usize) {
     if offset < file.len() {
         if file[offset] == b'Q' {
-            say(b"; the class of a Q line is a number, 2 for N2");
+            say(rt, b"; the class of a Q line is a number, 2 for N2");
         }
     }
 }

@@ -8,7 +8,7 @@ pub use find::find_id;
 pub use sets::{is_seen, mark};
 
 // Where an id stands in a list of ids, counted from 0, or that it stands nowhere in it.
-#[derive(Drop)]
+#[derive(Clone, Copy)]
 pub enum IdPlace {
     At(usize),
     Missing,

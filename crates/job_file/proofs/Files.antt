@@ -4,7 +4,7 @@
 --     file_short, file_over                         cause 1
 --     file_trailer, file_order, file_beyond         causes 2 and 3
 --     file_parts                                    none of them
---     parts_job_lem                                     the job of two parts that were read
+--     parts_job_lem                                 the job of two parts that were read
 use Prim.Native.Nat.{ℕ, ◌+◌, ◌-◌, ◌≤◌, ◌<◌}
 use mathlib.Core.Path.{◌≡◌}
 use mathlib.Core.List.{List}

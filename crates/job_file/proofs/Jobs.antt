@@ -1,13 +1,13 @@
 -- What a caller of `read_job` knows of its answer, and of the job where the file is accepted.
---     says_in                     what its check says
---     JobOf, job_read             an accepted file: its lists are those of the job, which keeps the rules
---     refusal_read                a refused file: the cause and its offset
---     glass_count_lem, pane_count_lem     the counts of a job are the lengths of its lists
---     few_glasses, few_panes      the lists are within their arrays
---     glasses_long, panes_long    which have 64 and 256 entries
---     glass_at_lem, pane_at_lem           a glass and a pane of a job are of allowed values
---     as_many_glasses, as_many_panes   a job's numbers count its glasses and panes
---     glass_ids_lent, pane_ids_lent    the lists of ids that are lent of a job's numbers
+--     says_in                           what its check says
+--     JobOf, job_read                   an accepted file: its lists are those of the job, which keeps the rules
+--     refusal_read                      a refused file: the cause and its offset
+--     glass_count_lem, pane_count_lem   the counts of a job are the lengths of its lists
+--     few_glasses, few_panes            the lists are within their arrays
+--     glasses_long, panes_long          which have 64 and 256 entries
+--     glass_at_lem, pane_at_lem         a glass and a pane of a job are of allowed values
+--     as_many_glasses, as_many_panes    a job's numbers count its glasses and panes
+--     glass_ids_lent, pane_ids_lent     the lists of ids that are lent of a job's numbers
 use Prim.Native.Nat.{ℕ, ◌≤◌, ◌<◌}
 use mathlib.Core.Path.{◌≡◌, refl, ap, sym, subst, ◌∙◌}
 use mathlib.Core.List.{List, map}

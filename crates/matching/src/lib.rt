@@ -2,6 +2,8 @@
 //
 // `match_panes` takes a row of bits for each pane, one for each glass that passes for it, and the sheets of each glass. It
 // knows of no file and no verdict; specs/Internal/Matching.antt says what it gives.
+#![tactic(auto)]
+
 mod search;
 mod sheets;
 

@@ -5,6 +5,7 @@ ghost use Rattle.glass_set.specs.Internal.Member.{has, Members};
 use glass_set::{with, without};
 
 // The glasses of which there is a sheet.
+#[tactic(auto, using(crate::proofs::Spares::counted_in, crate::proofs::Spares::counted_out))]
 pub fn spare_glasses(sheets: [u32; 64]) -> u64
     ensures { Members result (λ g. ltb 0 (get_or sheets g 0)) }
 {
