@@ -1,6 +1,6 @@
 -- The verdict, by the tests that led to it.
---     fails-1 .. fails-4, passes    each verdict
---     column_of_lem, uniform_of         what was worked out of a pane is within its bounds
+--     fails_1 .. fails_4, passes    each verdict
+--     column_of_lem, uniform_of     what was worked out of a pane is within its bounds
 --     wide_is, overloaded_is        the tests of what was worked out are those of the pane
 use Prim.Native.Nat.{◌<◌}
 use mathlib.Core.Path.{◌≡◌, ap, sym, subst⁻¹}

@@ -21,7 +21,7 @@ pub enum Verdict {
 }
 
 // What load_pane works out once, for all the glasses that a pane is tried with.
-#[derive(Drop)]
+#[derive(Clone, Copy)]
 pub struct LoadedPane {
     pub pane: Pane,
     pub point: PointLoad,

@@ -2,6 +2,8 @@
 //
 // `place_rows` gives panes sheets. It knows of no file and no clause: panes of any kind bring a row and an id each, glasses their
 // sheets and ids. specs/Internal/Promise.antt says what it gives.
+#![tactic(auto)]
+
 mod answers;
 mod group;
 
@@ -14,7 +16,7 @@ use group::write_group;
 use matching::match_panes;
 
 // How many panes there are, how many were given a glass and how many the short group has.
-#[derive(Drop)]
+#[derive(Clone, Copy)]
 pub struct PlaceCounts {
     pub wanted: usize,
     pub placed: usize,
