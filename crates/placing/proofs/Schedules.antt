@@ -1,7 +1,9 @@
 -- The rows and the numbers that are made of a job that was read state its schedule.
 --     known_file    an accepted file has what the placing asks of a schedule
 --     stated_job    its rows and numbers state its schedule
-use Prim.Native.Nat.{ℕ, ◌<◌}
+--     few_numbers   the numbers are of at most 256 panes
+--     as_many       as many entries of a list of 256 as panes
+use Prim.Native.Nat.{ℕ, ◌≤◌, ◌<◌}
 use mathlib.Core.Path.{◌≡◌, ap, sym, ◌∙◌}
 use mathlib.Core.List.{List}
 use native.Mathlib.Omega.{arith}
@@ -70,3 +72,10 @@ module _ (job : Job) (r : ReadJob job) (rows : List ℕ) (numbers : JobNumbers) 
 
       as_many : numbers.pane_count ≡ length (pane_ids_of panes)
       as_many = ap (λ (n : JobNumbers). n.pane_count) are ∙ sym (length-map panes (λ x. x.id))
+
+pub few_numbers :
+    (job : Job) → ReadJob job → (n : JobNumbers) → n ≡ numbers_of (glasses_of job) (panes_of job) → n.pane_count ≤ 256
+few_numbers job read n are = omega (arith, as_many_panes job read n are, few_panes job read)
+
+pub as_many : (count : ℕ) (xs : List ℕ) → length xs ≡ 256 → count ≤ 256 → length (take count xs) ≡ count
+as_many count xs long few = length-take-le count xs (omega (arith, long, few))

@@ -1,26 +1,13 @@
 -- `place_panes` meets its contract: what it hands to `place_rows` states the job's schedule.
-use Prim.Native.Nat.{ℕ, ◌≤◌}
+use Prim.Native.Nat.{ℕ}
 use native.Mathlib.Omega.{arith}
 use mathlib.Core.Path.{◌≡◌, refl, sym, ◌∙◌}
 use mathlib.Core.List.{List}
-use lib.ListN.{length, take, replicate}
-use lib.Seq.{length-take-le}
+use lib.ListN.{length, replicate}
 use borrow.Author.Rules.{rules}
-use Rattle.job_file.specs.declared.job.Job.{Job}
-use Rattle.job_file.specs.declared.job.JobNumbers.{JobNumbers}
-use Rattle.job_file.specs.Internal.Job.{glasses_of, panes_of, numbers_of, ReadJob}
-use Rattle.job_file.proofs.Laws.{few_panes, as_many_panes}
-use Rattle.placing.proofs.Schedules.{stated_job}
+use Rattle.job_file.proofs.Laws.{as_many_panes}
+use Rattle.placing.proofs.Schedules.{stated_job, few_numbers, as_many}
 use Rattle.placing.proofs.place_panes.Goals as goal
-
--- There are at most 256 panes.
-few_numbers :
-    (job : Job) → ReadJob job → (n : JobNumbers) → n ≡ numbers_of (glasses_of job) (panes_of job) → n.pane_count ≤ 256
-few_numbers job read n are = omega (arith, as_many_panes job read n are, few_panes job read)
-
--- As many rows, ids and places as there are panes.
-as_many : (count : ℕ) (xs : List ℕ) → length xs ≡ 256 → count ≤ 256 → length (take count xs) ≡ count
-as_many count xs long few = length-take-le count xs (omega (arith, long, few))
 
 abbrev zeros : List ℕ
 zeros = replicate 256 0
