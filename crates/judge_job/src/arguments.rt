@@ -1,4 +1,5 @@
 // The arguments that are ids.
+use std::rt::Env;
 
 // The highest id that can be asked for, and what stands for an argument that is no id.
 pub(crate) const HIGHEST_ID: u64 = 4294967295;
@@ -6,20 +7,19 @@ pub(crate) const HIGHEST_ID: u64 = 4294967295;
 const NO_ID: u64 = 4294967296;
 
 // Whether argument `i` is there and begins with a digit.
-pub(crate) fn is_id(i: usize) -> bool {
+pub(crate) fn is_id(rt: &impl Env, i: usize) -> bool {
     let mut first = [0u8; 1];
-    os::arg(i, &mut first);
+    let _ = rt.arg(i, &mut first);
     (b'0' <= first[0]) & (first[0] <= b'9')
 }
 
 // The id that argument `i` writes in at most ten digits; above the highest where it writes none.
-pub(crate) fn id_of(i: usize) -> u64 {
+pub(crate) fn id_of(rt: &impl Env, i: usize) -> u64 {
     let mut text = [0u8; 10];
-    let length = os::arg(i, &mut text);
-    if length == 0 {
-        return NO_ID;
+    match rt.arg(i, &mut text) {
+        Ok(0) | Err(_) => NO_ID,
+        Ok(length) => number(&text[..length]),
     }
-    number(&text[..length])
 }
 
 fn number(digits: &[u8]) -> u64 {

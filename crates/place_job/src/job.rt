@@ -4,14 +4,14 @@ use clauses::{Ruling, Verdict};
 use job_file::Checked;
 
 // What is due from a call: counts, or a refusal.
-#[derive(Drop)]
+#[derive(Clone, Copy)]
 pub(crate) enum Due {
     Counts,
     Refusal { cause: Cause, offset: usize },
 }
 
 // The job of a file, in file order. A refused file has no panes and no glasses. Behind the last of each the arrays have zeros.
-#[derive(Drop)]
+#[derive(Clone, Copy)]
 pub(crate) struct Job {
     // from a call with lists that are long enough
     pub(crate) due: Due,

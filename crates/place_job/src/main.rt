@@ -4,6 +4,8 @@
 // Each argument is the name of a job file, with which the call is made several times. A line for each file says `NAME: full` where
 // every pane was placed; `NAME: short by NUMBER`, the panes left over; `NAME: refused NUMBER OFFSET`; or `NAME: wrong: RULE`, the first
 // rule that was found broken. The last line counts the files that were read, and those of them that were wrong.
+#![tactic(auto)]
+
 mod answers;
 mod calls;
 mod groups;
@@ -14,21 +16,23 @@ mod words;
 
 use job_tool::{FileRead, write, write_number};
 use rules::Outcome;
+use std::io;
+use std::rt::{Env, Files};
 use words::write_outcome;
 
-fn main() {
-    let count = os::arg_count();
+fn main(rt: HostRuntime) -> io::Result<()> {
+    let count = job_tool::argument_count(&rt);
     if count < 2 {
-        words::say_usage();
-        return;
+        words::say_usage(&rt);
+        return Ok(());
     }
     let mut jobs = 0;
     let mut wrong = 0;
     let mut i = 1;
     while i < count {
-        let outcome = try_argument(i);
+        let outcome = try_argument(&rt, i)?;
         i += 1;
-        write_outcome(outcome);
+        write_outcome(&rt, outcome)?;
         match outcome {
             Outcome::Unread => {}
             Outcome::Wrong(_) => {
@@ -40,24 +44,24 @@ fn main() {
             }
         }
     }
-    write_number(jobs);
-    write(b" jobs, ");
-    write_number(wrong);
-    write(b" wrong\n");
+    write_number(&rt, jobs)?;
+    write(&rt, b" jobs, ")?;
+    write_number(&rt, wrong)?;
+    write(&rt, b" wrong\n")
 }
 
 // Tries the file that argument `i` names, and begins its line; where it is not opened or not read, writes the whole line.
-fn try_argument(i: usize) -> Outcome {
-    let mut file = io::large_buffer();
-    let read = job_tool::read_argument(i, &mut file);
+fn try_argument<R: Env + Files + Print + Eprint>(rt: &R, i: usize) -> io::Result<Outcome> {
+    let mut file = [0u8; 65536];
+    let read = job_tool::read_argument(rt, i, &mut file);
     match read {
         FileRead::Bytes(length) => {
-            job_tool::write_name(i);
-            calls::try_file(&file[..length])
+            job_tool::write_name(rt, i)?;
+            Ok(calls::try_file(&file[..length]))
         }
         _ => {
-            job_tool::write_unread(i, read);
-            Outcome::Unread
+            job_tool::write_unread(rt, i, read)?;
+            Ok(Outcome::Unread)
         }
     }
 }

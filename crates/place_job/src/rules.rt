@@ -9,7 +9,7 @@ use row_placing::PlaceCounts;
 
 // What came of a file, or of a call with it: all panes were placed, or so many were left over; a refusal; or the first rule that was
 // found broken.
-#[derive(Drop)]
+#[derive(Clone, Copy)]
 pub(crate) enum Outcome {
     // the file was not opened or not read
     Unread,
@@ -20,7 +20,7 @@ pub(crate) enum Outcome {
 }
 
 // The rules, each named for what it is about.
-#[derive(Drop)]
+#[derive(Clone, Copy)]
 pub(crate) enum Rule {
     Refusal,
     RefusedLists,
