@@ -6,7 +6,7 @@
 use Prim.Native.Nat.{ℕ}
 use mathlib.Core.Path.{◌≡◌, ap, subst, subst⁻¹, ◌∙◌}
 use mathlib.Core.List.{List, [], ◌∷◌, map, map-map}
-use lib.ListN.{length, length-map, get_or-map}
+use lib.ListN.{length-map, get_or-map}
 use Rattle.ids.specs.Ids.{Distinct}
 use Rattle.job_part.specs.Rules.{Every, PartRules}
 use Rattle.job_glass.specs.declared.Glass.{Glass}
