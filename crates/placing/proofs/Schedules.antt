@@ -2,7 +2,7 @@
 --     known_file    an accepted file has what the placing asks of a schedule
 --     stated_job    its rows and numbers state its schedule
 --     few_numbers   the numbers are of at most 256 panes
---     as_many       as many entries of a list of 256 as panes
+--     taken_long    as many entries of a list of 256 as panes
 use Prim.Native.Nat.{ℕ, ◌≤◌, ◌<◌}
 use mathlib.Core.Path.{◌≡◌, ap, sym, ◌∙◌}
 use mathlib.Core.List.{List}
@@ -77,5 +77,5 @@ pub few_numbers :
     (job : Job) → ReadJob job → (n : JobNumbers) → n ≡ numbers_of (glasses_of job) (panes_of job) → n.pane_count ≤ 256
 few_numbers job read n are = omega (arith, as_many_panes job read n are, few_panes job read)
 
-pub as_many : (count : ℕ) (xs : List ℕ) → length xs ≡ 256 → count ≤ 256 → length (take count xs) ≡ count
-as_many count xs long few = length-take-le count xs (omega (arith, long, few))
+pub taken_long : (count : ℕ) (xs : List ℕ) → length xs ≡ 256 → count ≤ 256 → length (take count xs) ≡ count
+taken_long count xs long few = length-take-le count xs (omega (arith, long, few))

@@ -6,7 +6,7 @@ use mathlib.Core.List.{List}
 use lib.ListN.{length, replicate}
 use borrow.Author.Rules.{rules}
 use Rattle.job_file.proofs.Laws.{as_many_panes}
-use Rattle.placing.proofs.Schedules.{stated_job, few_numbers, as_many}
+use Rattle.placing.proofs.Schedules.{stated_job, few_numbers, taken_long}
 use Rattle.placing.proofs.place_panes.Goals as goal
 
 abbrev zeros : List ℕ
@@ -36,9 +36,9 @@ place_rows-requires c =
     let few = few_numbers c.args.job c.requires.0 n c.numbers_of-numbers.ensures in
     let rows_long : length c.rows_of-rows.result ≡ 256 = search rules in
     let ids_long : length n.pane_ids ≡ 256 = search rules in
-    let rows = as_many n.pane_count c.rows_of-rows.result rows_long few in (
-      omega (arith, rows, as_many n.pane_count n.pane_ids ids_long few),
-      as_many n.pane_count zeros refl few ∙ sym rows,
+    let rows = taken_long n.pane_count c.rows_of-rows.result rows_long few in (
+      omega (arith, rows, taken_long n.pane_count n.pane_ids ids_long few),
+      taken_long n.pane_count zeros refl few ∙ sym rows,
       omega (arith, rows, same, c.requires.1),
       omega (arith, rows, same, c.requires.2),
     )
