@@ -25,7 +25,7 @@ use Rattle.clauses.proofs.Verdicts.{passes}
 
 -- The clauses by number, of any four tests.
 abbrev nth : ℕ → Bool → Bool → Bool → Bool → Bool
-nth n a b c d = if eqb n 1 then a else (if eqb n 2 then b else (if eqb n 3 then c else d))
+nth n a b c d = if eqb n 1 then a else if eqb n 2 then b else if eqb n 3 then c else d
 
 -- A clause before the fourth passes if its own test does.
 nth_passes :
@@ -40,7 +40,7 @@ nth_passes a b c d (suc (suc (suc (suc m)))) l h p q r = absurd (omega arith)
 none_fails : (n : ℕ) → nth n false false false false ≡ false
 none_fails n = go (eqb n 1) (eqb n 2) (eqb n 3)
   where
-    go : (x y z : Bool) → (if x then false else (if y then false else (if z then false else false))) ≡ false
+    go : (x y z : Bool) → (if x then false else if y then false else if z then false else false) ≡ false
     go true y z = refl
     go false true z = refl
     go false false true = refl

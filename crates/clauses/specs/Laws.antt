@@ -17,9 +17,9 @@ use Rattle.clauses.specs.declared.judging.Verdict.TheVariants.{Passes, Fails}
 abbrev pub clause_fails : ℕ → Pane → Glass → Bool
 clause_fails n p g =
     if eqb n 1 then kind_fails p g
-    else (if eqb n 2 then size_fails p g
-    else (if eqb n 3 then point_load_fails p g
-    else uniform_load_fails p g))
+    else if eqb n 2 then size_fails p g
+    else if eqb n 3 then point_load_fails p g
+    else uniform_load_fails p g
 
 -- A clause is the first to fail: it fails, and those before it pass.
 pub record FirstToFail (n : ℕ) (p : Pane) (g : Glass) : Type 0 where

@@ -13,10 +13,10 @@ use Rattle.clauses.specs.declared.judging.Verdict.TheVariants.{Passes, Fails}
 abbrev pub first_failure : (kind size point_load uniform_load : Bool) → Verdict
 first_failure kind size point_load uniform_load =
     if kind then Fails 1
-    else (if size then Fails 2
-    else (if point_load then Fails 3
-    else (if uniform_load then Fails 4
-    else Passes)))
+    else if size then Fails 2
+    else if point_load then Fails 3
+    else if uniform_load then Fails 4
+    else Passes
 
 unfoldable pub verdict_of : Pane → Glass → Verdict
 verdict_of p g = first_failure (kind_fails p g) (size_fails p g) (point_load_fails p g) (uniform_load_fails p g)

@@ -6,6 +6,6 @@ use Rattle.std.specs.Prelude.{ℕ, eqb, if◌then◌else◌}
 abbrev pub edge_cover : (thick : ℕ) → ℕ
 edge_cover thick =
     if eqb thick 6 then 6
-    else (if eqb thick 8 then 8
-    else (if eqb thick 10 then 8
-    else 9))
+    else if eqb thick 8 then 8
+    else if eqb thick 10 then 8
+    else 9

@@ -101,7 +101,7 @@ number_read (b ∷ bytes) n rest e = go (eqb b 48) (leb 48 b) (leb b 57) refl re
 
     go :
         (nought low high : Bool) → eqb b 48 ≡ nought → leb 48 b ≡ low → leb b 57 ≡ high →
-        (if nought then found 0 bytes else (if low && high then digits 4 (b - 48) bytes else nothing)) ≡ found n rest →
+        (if nought then found 0 bytes else if low && high then digits 4 (b - 48) bytes else nothing) ≡ found n rest →
         b ∷ bytes ≡ written_number n ++ rest
     go true low high o p q f =
         let is0 : 0 ≡ n = cc in

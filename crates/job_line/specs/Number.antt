@@ -17,5 +17,5 @@ digits (suc left) value bytes =
 unfoldable pub number : List ℕ → Found ℕ
 number bytes =
     if eqb (next bytes) digit0 then found 0 (behind bytes)
-    else (if is_digit (next bytes) then digits 4 (next bytes - digit0) (behind bytes)
-    else nothing)
+    else if is_digit (next bytes) then digits 4 (next bytes - digit0) (behind bytes)
+    else nothing

@@ -11,10 +11,10 @@ written_digits (suc count) n = written_digits count (n / 10) ++ ((digit0 + n % 1
 unfoldable pub digit_count : ℕ → ℕ
 digit_count n =
     if ltb n 10 then 1
-    else (if ltb n 100 then 2
-    else (if ltb n 1000 then 3
-    else (if ltb n 10000 then 4
-    else 5)))
+    else if ltb n 100 then 2
+    else if ltb n 1000 then 3
+    else if ltb n 10000 then 4
+    else 5
 
 -- A number with no zeros in front. Ids, counts and offsets are all at most 99999.
 unfoldable pub written_number : ℕ → List ℕ

@@ -29,7 +29,7 @@ module _ {A : Type 0} (form : Form A) where
   -- The two tests of an entry: an entry that is taken passed them, and one that passes them is taken.
   gates :
       (a m : Bool) (x y : A) (rest rest' : List ℕ) →
-      (if not a then faulty NumberValue else (if m then faulty RepeatedId else taken x rest)) ≡ taken y rest' →
+      (if not a then faulty NumberValue else if m then faulty RepeatedId else taken x rest) ≡ taken y rest' →
       T a × T (not m) × (x ≡ y) × (rest ≡ rest')
   gates true false x y rest rest' e = (tt, tt, cc, cc)
   gates false m x y rest rest' e = clash (cc)
@@ -64,7 +64,7 @@ module _ {A : Type 0} (form : Form A) where
       (a m : Bool) (x : A) (rest : List ℕ) →
       T a →
       T (not m) →
-      (if not a then faulty NumberValue else (if m then faulty RepeatedId else taken x rest)) ≡ taken x rest
+      (if not a then faulty NumberValue else if m then faulty RepeatedId else taken x rest) ≡ taken x rest
   passes true false x rest h k = refl
   passes false m x rest h k = absurd h
   passes true true x rest h k = absurd k

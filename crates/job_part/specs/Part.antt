@@ -32,8 +32,8 @@ pub data Judged (A : Type 0) : Type 0 where
 unfoldable pub judged_entry : {A : Type 0} (form : Form A) (ids : List ℕ) (x : A) (rest : List ℕ) → Judged A
 judged_entry form ids x rest =
     if not (form.allowed x) then faulty NumberValue
-    else (if among (form.id x) ids then faulty RepeatedId
-    else taken x rest)
+    else if among (form.id x) ids then faulty RepeatedId
+    else taken x rest
 
 -- The line at the front of some bytes: cause 4, and then the others.
 unfoldable pub judged : {A : Type 0} (form : Form A) (ids bytes : List ℕ) → Judged A

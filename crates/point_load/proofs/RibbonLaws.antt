@@ -23,8 +23,8 @@ use Rattle.point_load.proofs.Columns.{over_thrice, column_high}
 -- The column of a pane in proportion, by the four tests.
 same_column :
     (two equal twice thrice : Bool) → two || thrice ≡ true →
-    (if two then two_edge else (if equal then AR=1 else (if twice then AR=2 else (if thrice then AR=3 else two_edge))))
-    ≡ (if two then two_edge else (if equal then AR=1 else (if twice then AR=2 else AR=3)))
+    (if two then two_edge else if equal then AR=1 else if twice then AR=2 else if thrice then AR=3 else two_edge)
+    ≡ (if two then two_edge else if equal then AR=1 else if twice then AR=2 else AR=3)
 same_column true equal twice thrice e = refl
 same_column false equal twice true e = refl
 same_column false equal twice false e = clash (cc)

@@ -5,5 +5,5 @@ use Rattle.std.specs.Prelude.{ℕ, ltb, eqb, if◌then◌else◌}
 abbrev pub live_load : (angle awning : ℕ) → ℕ
 live_load angle awning =
     if eqb awning 1 then 18
-    else (if ltb angle 30 then 11
-    else 5)
+    else if ltb angle 30 then 11
+    else 5

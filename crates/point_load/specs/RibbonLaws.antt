@@ -10,9 +10,9 @@ use Rattle.point_load.specs.PointLoad.{entry_in, point_load_fails}
 abbrev pub column_before : Pane → ℕ
 column_before p =
     if eqb p.edges 2 then two_edge
-    else (if eqb p.w p.h then AR=1
-    else (if leb (max p.w p.h) (2 * min p.w p.h) then AR=2
-    else AR=3))
+    else if eqb p.w p.h then AR=1
+    else if leb (max p.w p.h) (2 * min p.w p.h) then AR=2
+    else AR=3
 
 -- Two panes have the same slope, and both are on an awning or neither is.
 pub record SameLoad (p q : Pane) : Type 0 where

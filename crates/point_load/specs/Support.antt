@@ -20,10 +20,10 @@ two_edge = 3
 abbrev pub column_of : Pane → ℕ
 column_of p =
     if eqb p.edges 2 then two_edge
-    else (if eqb p.w p.h then AR=1
-    else (if leb (max p.w p.h) (2 * min p.w p.h) then AR=2
-    else (if leb (max p.w p.h) (3 * min p.w p.h) then AR=3
-    else two_edge)))
+    else if eqb p.w p.h then AR=1
+    else if leb (max p.w p.h) (2 * min p.w p.h) then AR=2
+    else if leb (max p.w p.h) (3 * min p.w p.h) then AR=3
+    else two_edge
 
 -- The span B: between the two supports, or else along the shorter side.
 abbrev pub span_of : Pane → ℕ

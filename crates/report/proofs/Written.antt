@@ -32,7 +32,7 @@ pub few_digits : (n : ℕ) → digit_count n ≤ 5
 unfolding digit_count
 few_digits n = go (ltb n 10) (ltb n 100) (ltb n 1000) (ltb n 10000)
   where
-    go : (a b c d : Bool) → (if a then 1 else (if b then 2 else (if c then 3 else (if d then 4 else 5)))) ≤ 5
+    go : (a b c d : Bool) → (if a then 1 else if b then 2 else if c then 3 else if d then 4 else 5) ≤ 5
     go true b c d = omega arith
     go false true c d = omega arith
     go false false true d = omega arith
@@ -43,7 +43,7 @@ fewer_digits : (n : ℕ) → n ≤ 9999 → digit_count n ≤ 4
 unfolding digit_count
 fewer_digits n small = rw (lt-ltb n 10000 (omega arith)) (go (ltb n 10) (ltb n 100) (ltb n 1000))
   where
-    go : (a b c : Bool) → (if a then 1 else (if b then 2 else (if c then 3 else 4))) ≤ 4
+    go : (a b c : Bool) → (if a then 1 else if b then 2 else if c then 3 else 4) ≤ 4
     go true b c = omega arith
     go false true c = omega arith
     go false false true = omega arith

@@ -10,8 +10,8 @@ use Rattle.check_job.specs.declared.wind.WindFault.TheVariants.{NoClass, NoZone,
 abbrev pub fault_of : (class zone : ℕ) → WindFault
 fault_of class zone =
     if allowed_wind (ByClass class zone) then NoFault
-    else (if allowed_wind (ByClass class 1) then NoZone
-    else NoClass)
+    else if allowed_wind (ByClass class 1) then NoZone
+    else NoClass
 
 -- By what was found of the line: its last two of nine numbers are the class and the zone.
 abbrev pub line_fault : Found (List ℕ) → WindFault
