@@ -13,6 +13,7 @@ use job_pane::{NO_PANE, PanePart, read_panes};
 use job_part::PartEnd;
 
 // The job of a file, or the first cause against it.
+#[tactic(auto, using(crate::proofs::Files::file_over))]
 pub fn read_job(file: &[u8]) -> Job
     ensures { result ≡ job_in (outcome_of file.now) }
 {

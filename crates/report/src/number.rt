@@ -22,6 +22,7 @@ pub fn write_number(n: usize, text: &mut [u8], at: usize) -> usize
 }
 
 // How many digits a number has, of at most five.
+#[tactic(auto, unfolding(job_line::specs::WrittenNumber::digit_count))]
 fn digit_count(n: usize) -> usize
     ensures { result ≡ digit_count n }
 {
