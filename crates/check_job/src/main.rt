@@ -10,7 +10,7 @@ mod wind;
 mod words;
 
 use job_file::Checked;
-use job_tool::{FileRead, write, write_number};
+use job_tool::{FileRead, StandardError, write, write_number};
 use std::io;
 use std::rt::{Env, Files};
 
@@ -28,14 +28,14 @@ fn main(rt: HostRuntime) -> io::Result<()> {
 }
 
 // Answers for standard input. Where a read of it fails, the file is what was read before.
-fn check_input<R: Input + Print + Eprint>(rt: &R) -> io::Result<()> {
+fn check_input<R: Input + Print + StandardError>(rt: &R) -> io::Result<()> {
     let mut file = [0u8; 65536];
     let length = job_tool::read_input(rt, &mut file);
     answer_for(rt, &file[..length], true)
 }
 
 // Answers for the file that argument `i` names, or says that it was not opened or not read.
-fn check_argument<R: Env + Files + Print + Eprint>(
+fn check_argument<R: Env + Files + Print + StandardError>(
     rt: &R,
     i: usize,
     is_single: bool,
@@ -52,7 +52,7 @@ fn check_argument<R: Env + Files + Print + Eprint>(
 }
 
 // The line `accepted GLASSES PANES` or `refused NUMBER OFFSET`; and of a single file that is refused, why and on which line.
-fn answer_for<R: Print + Eprint>(rt: &R, file: &[u8], is_single: bool) -> io::Result<()> {
+fn answer_for<R: Print + StandardError>(rt: &R, file: &[u8], is_single: bool) -> io::Result<()> {
     match job_file::check(file) {
         Checked::Accepted {
             glass_count,

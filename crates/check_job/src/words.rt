@@ -2,9 +2,9 @@
 use crate::place::line_number;
 use crate::wind::{WindFault, line_fault};
 use causes::{Cause, number_of};
-use job_tool::{say, say_number};
+use job_tool::{StandardError, say, say_number};
 
-pub(crate) fn explain(rt: &impl Eprint, cause: Cause, file: &[u8], offset: usize) {
+pub(crate) fn explain(rt: &impl StandardError, cause: Cause, file: &[u8], offset: usize) {
     say(rt, b"line ");
     say_number(rt, line_number(file, offset) as u64);
     say(rt, b", byte ");
@@ -22,7 +22,7 @@ pub(crate) fn explain(rt: &impl Eprint, cause: Cause, file: &[u8], offset: usize
 }
 
 // The classes or the zones that there are, where a line has another.
-fn say_wind(rt: &impl Eprint, fault: WindFault) {
+fn say_wind(rt: &impl StandardError, fault: WindFault) {
     match fault {
         WindFault::NoClass => say(
             rt,
@@ -37,7 +37,7 @@ fn say_wind(rt: &impl Eprint, fault: WindFault) {
 }
 
 // Of a line that begins with `Q`: its class may have been written by its name.
-fn say_letter(rt: &impl Eprint, file: &[u8], offset: usize) {
+fn say_letter(rt: &impl StandardError, file: &[u8], offset: usize) {
     if offset < file.len() {
         if file[offset] == b'Q' {
             say(rt, b"; the class of a Q line is a number, 2 for N2");

@@ -10,4 +10,4 @@ pub use argument::{
     FileRead, argument_count, read_argument, write_argument, write_name, write_unread,
 };
 pub use input::read_input;
-pub use words::{say, say_cause, say_number, write, write_number, write_refusal};
+pub use words::{StandardError, say, say_cause, say_number, write, write_number, write_refusal};

@@ -22,27 +22,28 @@ pub fn write_refusal(rt: &impl Print, cause: Cause, offset: usize) -> io::Result
     write(rt, b"\n")
 }
 
-// On standard error. In what is not UTF-8, `?` stands for each byte that is not ASCII.
-pub fn say(rt: &impl Eprint, text: &[u8]) {
-    match str::from_utf8(text) {
-        Ok(text) => {
-            let _ = rt.eprint(text);
-        }
-        Err(_) => {
-            for byte in text {
-                let letter = if byte.is_ascii() { *byte as char } else { '?' };
-                let _ = rt.eprint(letter);
-            }
-        }
+// Standard error, which takes bytes that need not be text, as a name of a file may be none.
+pub trait StandardError: Eprint {
+    fn write_error(&self, text: &[u8]) -> io::Result<()>;
+}
+
+impl StandardError for HostRuntime {
+    fn write_error(&self, text: &[u8]) -> io::Result<()> {
+        self.stderr().write_all(text)
     }
 }
 
-pub fn say_number(rt: &impl Eprint, number: u64) {
+// On standard error.
+pub fn say(rt: &impl StandardError, text: &[u8]) {
+    let _ = rt.write_error(text);
+}
+
+pub fn say_number(rt: &impl StandardError, number: u64) {
     let _ = rt.eprint(number);
 }
 
 // The line that says why a file of this name was not opened or not read: the name, a colon and the error's words.
-pub(crate) fn say_failure(rt: &impl Eprint, name: &[u8], error: Error) {
+pub(crate) fn say_failure(rt: &impl StandardError, name: &[u8], error: Error) {
     say(rt, name);
     say(rt, b": ");
     say_error(rt, error);
@@ -50,7 +51,7 @@ pub(crate) fn say_failure(rt: &impl Eprint, name: &[u8], error: Error) {
 }
 
 // The system's words for an error, without its number.
-fn say_error(rt: &impl Eprint, error: Error) {
+fn say_error(rt: &impl StandardError, error: Error) {
     let mut text = Cursor::new([0u8; 256]);
     let _ = write!(text, "{error}");
     let length = text.position() as usize;
@@ -72,7 +73,7 @@ fn without_number(text: &[u8]) -> &[u8] {
 }
 
 // A cause in plain words, and what to do about it, on standard error.
-pub fn say_cause(rt: &impl Eprint, cause: Cause) {
+pub fn say_cause(rt: &impl StandardError, cause: Cause) {
     match cause {
         Cause::FileLength => say(
             rt,

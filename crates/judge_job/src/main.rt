@@ -13,7 +13,7 @@ mod words;
 use arguments::{HIGHEST_ID, id_of, is_id};
 use clauses::{Ruling, Verdict};
 use job_file::{Checked, Job};
-use job_tool::{FileRead, write, write_name, write_number, write_refusal};
+use job_tool::{FileRead, StandardError, write, write_name, write_number, write_refusal};
 use std::io;
 use std::rt::{Env, Files};
 
@@ -36,7 +36,7 @@ fn main(rt: HostRuntime) -> io::Result<()> {
 
 // Answers for the file that argument `name` names, whose ids stand from argument `next` on, or says that it was not opened or
 // not read.
-fn judge_named<R: Env + Files + Print + Eprint>(
+fn judge_named<R: Env + Files + Print + StandardError>(
     rt: &R,
     name: usize,
     next: usize,
@@ -50,7 +50,7 @@ fn judge_named<R: Env + Files + Print + Eprint>(
     }
 }
 
-fn judge_file<R: Env + Print + Eprint>(
+fn judge_file<R: Env + Print + StandardError>(
     rt: &R,
     file: &[u8],
     name: usize,
@@ -65,7 +65,7 @@ fn judge_file<R: Env + Print + Eprint>(
 }
 
 // Answers for the ids from argument `next` on, two by two, up to the next name.
-fn judge_pairs<R: Env + Print + Eprint>(
+fn judge_pairs<R: Env + Print + StandardError>(
     rt: &R,
     file: &[u8],
     name: usize,
@@ -89,7 +89,7 @@ fn judge_pairs<R: Env + Print + Eprint>(
 }
 
 // Answers for the ids that arguments `pane` and `glass` are, or says what is wrong with them.
-fn judge_pair<R: Env + Print + Eprint>(
+fn judge_pair<R: Env + Print + StandardError>(
     rt: &R,
     file: &[u8],
     name: usize,
@@ -109,7 +109,7 @@ fn judge_pair<R: Env + Print + Eprint>(
 }
 
 // Answers for every pane of a file with every glass, in file order.
-fn judge_all<R: Env + Print + Eprint>(rt: &R, file: &[u8], name: usize) -> io::Result<()> {
+fn judge_all<R: Env + Print + StandardError>(rt: &R, file: &[u8], name: usize) -> io::Result<()> {
     let job = job_file::read_job(file);
     let checked = job.checked;
     match checked {
@@ -133,7 +133,7 @@ fn judge_all<R: Env + Print + Eprint>(rt: &R, file: &[u8], name: usize) -> io::R
 }
 
 // Answers for a pane with every glass. Behind a file's panes and glasses the arrays have entries of the id 0.
-fn judge_row<R: Env + Print + Eprint>(
+fn judge_row<R: Env + Print + StandardError>(
     rt: &R,
     file: &[u8],
     name: usize,
@@ -155,7 +155,7 @@ fn judge_row<R: Env + Print + Eprint>(
 }
 
 // Puts a question to the clause check and writes the line of its answer.
-fn judge<R: Env + Print + Eprint>(
+fn judge<R: Env + Print + StandardError>(
     rt: &R,
     file: &[u8],
     name: usize,

@@ -1,10 +1,10 @@
 // What is said to people, on standard error: an answer in plain words, with the number and the name of the clause.
 use causes::{Cause, number_of};
 use clauses::{Ruling, Verdict};
-use job_tool::{say, say_number};
+use job_tool::{StandardError, say, say_number};
 
 // Why the glass may not be used; nothing where it may.
-pub(crate) fn explain(rt: &impl Eprint, answer: Ruling) {
+pub(crate) fn explain(rt: &impl StandardError, answer: Ruling) {
     match answer {
         Ruling::Ruled(verdict) => match verdict {
             Verdict::Passes => {}
@@ -14,7 +14,7 @@ pub(crate) fn explain(rt: &impl Eprint, answer: Ruling) {
     }
 }
 
-fn explain_refusal(rt: &impl Eprint, cause: Cause) {
+fn explain_refusal(rt: &impl StandardError, cause: Cause) {
     match cause {
         Cause::NoPane | Cause::NoGlass => {
             say(rt, b"number ");
@@ -30,7 +30,7 @@ fn explain_refusal(rt: &impl Eprint, cause: Cause) {
     }
 }
 
-fn explain_clause(rt: &impl Eprint, clause: u32) {
+fn explain_clause(rt: &impl StandardError, clause: u32) {
     match clause {
         1 => say(
             rt,
@@ -48,7 +48,7 @@ fn explain_clause(rt: &impl Eprint, clause: u32) {
     }
 }
 
-fn explain_size(rt: &impl Eprint) {
+fn explain_size(rt: &impl StandardError) {
     say(
         rt,
         b"clause 2, size: upright or turned, each side of the sheet must exceed the pane's sight size by two edge covers or more (",
@@ -67,14 +67,14 @@ fn explain_size(rt: &impl Eprint) {
 }
 
 // By how much a sheet of this thickness must exceed the sight size.
-fn say_excess(rt: &impl Eprint, thick: u32) {
+fn say_excess(rt: &impl StandardError, thick: u32) {
     say_number(rt, 2 * cut_size::edge_cover(thick) as u64);
     say(rt, b" mm in ");
     say_number(rt, thick as u64);
     say(rt, b" mm glass");
 }
 
-pub(crate) fn say_usage(rt: &impl Eprint) {
+pub(crate) fn say_usage(rt: &impl StandardError) {
     say(
         rt,
         b"usage: judge_job FILE [PANE GLASS].. [FILE [PANE GLASS]..]..; FILE alone asks for every pane with every glass\n",

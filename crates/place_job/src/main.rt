@@ -14,7 +14,7 @@ mod lists;
 mod rules;
 mod words;
 
-use job_tool::{FileRead, write, write_number};
+use job_tool::{FileRead, StandardError, write, write_number};
 use rules::Outcome;
 use std::io;
 use std::rt::{Env, Files};
@@ -51,7 +51,7 @@ fn main(rt: HostRuntime) -> io::Result<()> {
 }
 
 // Tries the file that argument `i` names, and begins its line; where it is not opened or not read, writes the whole line.
-fn try_argument<R: Env + Files + Print + Eprint>(rt: &R, i: usize) -> io::Result<Outcome> {
+fn try_argument<R: Env + Files + Print + StandardError>(rt: &R, i: usize) -> io::Result<Outcome> {
     let mut file = [0u8; 65536];
     let read = job_tool::read_argument(rt, i, &mut file);
     match read {

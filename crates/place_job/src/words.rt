@@ -1,6 +1,6 @@
 // The rest of a file's line, on standard output; and what is said to people, on standard error.
 use crate::rules::{Outcome, Rule};
-use job_tool::{write, write_number};
+use job_tool::{StandardError, write, write_number};
 use std::io;
 
 // Nothing of a file that was not opened or not read: its line is whole.
@@ -63,6 +63,6 @@ fn write_list_rule(rt: &impl Print, rule: Rule) -> io::Result<()> {
     }
 }
 
-pub(crate) fn say_usage(rt: &impl Eprint) {
+pub(crate) fn say_usage(rt: &impl StandardError) {
     job_tool::say(rt, b"usage: place_job FILE..\n");
 }
