@@ -14,7 +14,8 @@ pub write_pair-end-requires : goal.write_pair-end-requires
 write_pair-end-requires c =
     let a = c.args in
     let panes = panes_long a.ids.now a.answers.now c.requires.0 (length a.answers.now) (omega arith) in
-    (c.requires.2, omega (arith, c.requires.0.few), omega (arith, panes, c.requires.3))
+    let few = c.requires.0.few in
+    (omega (arith, few, c.requires.2), omega (arith, few, c.requires.2), omega (arith, panes, c.requires.3))
 
 pub write_short-requires : goal.write_short-requires
 write_short-requires c =
