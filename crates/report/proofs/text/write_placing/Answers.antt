@@ -9,21 +9,6 @@ use Rattle.report.proofs.Wrote.{wrote_then}
 use Rattle.report.proofs.Written.{pair_long, panes_long}
 use Rattle.report.proofs.text.write_placing.Goals as goal
 
--- A pane's line and that of the counts have at most ten bytes each.
-pub write_pair-end-requires : goal.write_pair-end-requires
-write_pair-end-requires c =
-    let a = c.args in
-    let panes = panes_long a.ids.now a.answers.now c.requires.0 (length a.answers.now) (omega arith) in
-    let few = c.requires.0.few in
-    (omega (arith, few, c.requires.2), omega (arith, few, c.requires.2), omega (arith, panes, c.requires.3))
-
-pub write_short-requires : goal.write_short-requires
-write_short-requires c =
-    let a = c.args in
-    let panes = panes_long a.ids.now a.answers.now c.requires.0 (length a.answers.now) (omega arith) in
-    let counts = pair_long a.placed (length a.answers.now) c.requires.2 (omega (arith, c.requires.0.few)) in
-    (c.requires.1, omega (arith, panes, counts, c.requires.3))
-
 pub returns-then-placed-wanted : goal.returns-then-placed-wanted
 unfolding placing_text
 returns-then-placed-wanted c =
@@ -48,3 +33,18 @@ returns c =
     (wrote_then 0 a.text.now panes counts c.write_panes-counts.new.text c.write_pair-end.new.text c.write_panes-counts.result
     c.write_pair-end.result (omega arith) c.write_panes-counts.ensures c.write_pair-end.ensures)
     c.write_short.ensures)
+
+-- A pane's line and that of the counts have at most ten bytes each.
+pub write_pair-end-requires : goal.write_pair-end-requires
+write_pair-end-requires c =
+    let a = c.args in
+    let panes = panes_long a.ids.now a.answers.now c.requires.0 (length a.answers.now) (omega arith) in
+    let few = c.requires.0.few in
+    (omega (arith, few, c.requires.2), omega (arith, few, c.requires.2), omega (arith, panes, c.requires.3))
+
+pub write_short-requires : goal.write_short-requires
+write_short-requires c =
+    let a = c.args in
+    let panes = panes_long a.ids.now a.answers.now c.requires.0 (length a.answers.now) (omega arith) in
+    let counts = pair_long a.placed (length a.answers.now) c.requires.2 (omega (arith, c.requires.0.few)) in
+    (c.requires.1, omega (arith, panes, counts, c.requires.3))
