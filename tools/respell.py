@@ -3,9 +3,10 @@
 
     python3 tools/respell.py
 
-Run once at the top of the repository, behind /opt/rattle/port/port.py, which respells what it knows. Names of specs/ and proofs/ that
-have a dash between two of their parts, or a capital behind a small letter, become snake case: `all-at` and `allAt` are `all_at`. Types,
-records and modules keep theirs, and so do names that Rattle makes, that the library has, or that src/ has.
+Run once at the top of the repository as the older Rattle left it, behind the kit's port/port.py, which respells what it knows; later it
+refuses, since the names of answers in proofs/ are Rattle's own. Names of specs/ and proofs/ that have a dash between two of their parts, or
+a capital behind a small letter, become snake case: `all-at` and `allAt` are `all_at`. Types, records and modules keep theirs, and so do
+names that Rattle makes, that the library has, or that src/ has.
 
 A name is changed where it stands as a word of its own: in specs/ and proofs/; in clauses and `ghost use` lines of src/; in the text of
 must-fail edits; between backticks in Markdown files; and in comments where it is the first word of a line of a file's table of names or
@@ -122,6 +123,8 @@ def fallen_together(path, text, names):
 
 
 def main():
+    if files("crates/*/proofs/**/Invariants.antt"):
+        sys.exit("the repository has been moved: its proofs have today's form")
     names = own_names()
     clashes = []
     for path in antt_files():

@@ -28,6 +28,7 @@ pub struct JobNumbers {
 }
 
 // The numbers of a job: all of them at once, since each function that takes a job copies it.
+#[tactic(auto, using(crate::proofs::Jobs::few_glasses, crate::proofs::Jobs::few_panes))]
 pub fn numbers_of(job: Job) -> JobNumbers
     requires { ReadJob job }
     ensures { result ≡ numbers_of (glasses_of job) (panes_of job) }

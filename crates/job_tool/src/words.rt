@@ -50,7 +50,8 @@ pub(crate) fn say_failure(rt: &impl StandardError, name: &[u8], error: Error) {
     say(rt, b"\n");
 }
 
-// The system's words for an error, without its number.
+// The system's words for an error, without its number. The cursor stops at the end of its array, so the test never fails; it shows that the
+// words stand within the array.
 fn say_error(rt: &impl StandardError, error: Error) {
     let mut text = Cursor::new([0u8; 256]);
     let _ = write!(text, "{error}");

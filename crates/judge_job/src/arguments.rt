@@ -6,7 +6,7 @@ pub(crate) const HIGHEST_ID: u64 = 4294967295;
 
 const NO_ID: u64 = 4294967296;
 
-// Whether argument `i` is there and begins with a digit.
+// Whether argument `i` is there and begins with a digit. Of one that is longer, the host's `arg` leaves the first byte.
 pub(crate) fn is_id(rt: &impl Env, i: usize) -> bool {
     let mut first = [0u8; 1];
     let _ = rt.arg(i, &mut first);

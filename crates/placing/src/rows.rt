@@ -15,6 +15,7 @@ use job_file::Job;
 use job_glass::Glass;
 
 // The row of each pane of a job, and 0 past the last. What a verdict takes of the pane alone is worked out once a pane.
+#[tactic(auto, using(job_file::proofs::Laws::few_glasses, job_file::proofs::Laws::few_panes))]
 pub fn rows_of(job: Job) -> [u64; 256]
     requires { ReadJob job }
     ensures { JobRows (schedule_of (glasses_of job) (stocks_of (glasses_of job)) (panes_of job)) result }

@@ -1,6 +1,5 @@
 -- `job::numbers_of` meets its contract: an entry more that a loop passes is written behind those before it, and where all are
 -- passed the arrays are those of the whole lists.
-use borrow.Author.Rules.{rules}
 use native.Mathlib.Omega.{arith}
 use mathlib.Core.Path.{◌≡◌, refl, ◌∙◌}
 use lib.ListN.{replicate}
@@ -53,65 +52,5 @@ returns c =
 pub loop-g-init : goal.loop-g-init
 loop-g-init c = (omega arith, refl, refl)
 
-pub offset_bounds-job-g : goal.offset_bounds-job-g
-offset_bounds-job-g c =
-    let low = few_glasses c.args.job c.requires in
-    search rules
-
-pub bounds-job-g : goal.bounds-job-g
-bounds-job-g c =
-    let low = few_glasses c.args.job c.requires in
-    omega (arith, low)
-
-pub offset_bounds-glass_ids-g : goal.offset_bounds-glass_ids-g
-offset_bounds-glass_ids-g c =
-    let low = few_glasses c.args.job c.requires in
-    search rules
-
-pub bounds-glass_ids-g : goal.bounds-glass_ids-g
-bounds-glass_ids-g c =
-    let low = few_glasses c.args.job c.requires in
-    omega (arith, low)
-
-pub offset_bounds-stocks-g : goal.offset_bounds-stocks-g
-offset_bounds-stocks-g c =
-    let low = few_glasses c.args.job c.requires in
-    search rules
-
-pub bounds-stocks-g : goal.bounds-stocks-g
-bounds-stocks-g c =
-    let low = few_glasses c.args.job c.requires in
-    omega (arith, low)
-
-pub overflow_add-g : goal.overflow_add-g
-overflow_add-g c =
-    let low = few_glasses c.args.job c.requires in
-    search rules
-
 pub loop-p-init : goal.loop-p-init
 loop-p-init c = (omega arith, refl)
-
-pub offset_bounds-job-p : goal.offset_bounds-job-p
-offset_bounds-job-p c =
-    let low = few_panes c.args.job c.requires in
-    search rules
-
-pub bounds-job-p : goal.bounds-job-p
-bounds-job-p c =
-    let low = few_panes c.args.job c.requires in
-    omega (arith, low)
-
-pub offset_bounds-pane_ids-p : goal.offset_bounds-pane_ids-p
-offset_bounds-pane_ids-p c =
-    let low = few_panes c.args.job c.requires in
-    search rules
-
-pub bounds-pane_ids-p : goal.bounds-pane_ids-p
-bounds-pane_ids-p c =
-    let low = few_panes c.args.job c.requires in
-    omega (arith, low)
-
-pub overflow_add-p : goal.overflow_add-p
-overflow_add-p c =
-    let low = few_panes c.args.job c.requires in
-    search rules

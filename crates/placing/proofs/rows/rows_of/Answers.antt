@@ -1,7 +1,5 @@
 -- `rows::rows_of` meets its contract. The outer loop's invariant: the panes below `p` have their rows, and the other rows are 0.
 -- The inner one's: the row has the bits of the glasses below `g`.
-use borrow.Author.Rules.{rules}
-use Prim.Native.Nat.{◌≤◌}
 use native.Mathlib.Omega.{arith}
 use mathlib.Core.Path.{◌≡◌, refl, ap, sym, subst⁻¹, ◌∙◌}
 use lib.ListN.{length, length-map}
@@ -23,11 +21,8 @@ job_schedule job = schedule_of (glasses_of job) (stocks_of (glasses_of job)) (pa
 
 pub with_verdict-row-requires : goal.with_verdict-row-requires
 with_verdict-row-requires c =
-    let most_glasses : c.args.job.glass_count ≤ 64 =
-    few_glasses c.args.job c.requires in
-    let pane_values : PaneValues (pane_at c.args.job.panes c.loop-p.p) =
-    pane_at_lem c.args.job c.requires c.loop-p.p c.loop-p-test.true in (
-      omega (arith, most_glasses),
+    let pane_values = pane_at_lem c.args.job c.requires c.loop-p.p c.loop-p-test.true in (
+      omega (arith, few_glasses c.args.job c.requires),
       c.clause_tables-tables.ensures,
       c.load_pane-loaded.ensures ∙ rw c.load_pane-loaded.ensures,
       subst⁻¹ (λ (x : LoadedPane). PaneValues x.pane) c.load_pane-loaded.ensures pane_values,
@@ -43,8 +38,6 @@ loop-g-preserved c = (
 
 pub loop-p-preserved : goal.loop-p-preserved
 loop-p-preserved c =
-    let most_panes : c.args.job.pane_count ≤ 256 =
-    few_panes c.args.job c.requires in
     let job = c.args.job in
     let p = c.loop-p.p in
     let all : c.loop-g.g ≡ job.glass_count = omega arith in
@@ -53,16 +46,10 @@ loop-p-preserved c =
     ∙ sym (get_or-take job.pane_count job.panes p blank_pane c.loop-p-test.true) in
     let row = rw (pane, all) at c.loop-g.invariant.1 in (
       omega (arith, c.loop-p-test.true),
-      rows_next (job_schedule job) p c.loop-g.row c.loop-p.rows (omega (arith, most_panes, c.loop-p-test.true))
+      rows_next (job_schedule job) p c.loop-g.row c.loop-p.rows (omega (arith, few_panes job c.requires, c.loop-p-test.true))
           c.loop-p.invariant.1
           (row_of (glasses_of job) (panes_of job) p job.glasses job.glass_count c.loop-g.row refl (glass_count_lem job c.requires) row),
     )
-
-pub bounds-rows-p : goal.bounds-rows-p
-bounds-rows-p c =
-    let most_panes : c.args.job.pane_count ≤ 256 =
-    few_panes c.args.job c.requires in
-    omega (arith, most_panes, c.loop-p-test.true)
 
 pub returns : goal.returns
 returns c =
@@ -74,50 +61,8 @@ returns c =
 pub loop-p-init : goal.loop-p-init
 loop-p-init c = (omega arith, rows_none (job_schedule c.args.job))
 
-pub offset_bounds-job-p : goal.offset_bounds-job-p
-offset_bounds-job-p c =
-    let most_panes : c.args.job.pane_count ≤ 256 =
-    few_panes c.args.job c.requires in
-    let few = most_panes in search rules
-
-pub bounds-job-p : goal.bounds-job-p
-bounds-job-p c =
-    let most_panes : c.args.job.pane_count ≤ 256 =
-    few_panes c.args.job c.requires in
-    omega (arith, most_panes)
-
 pub load_pane-loaded-requires : goal.load_pane-loaded-requires
-load_pane-loaded-requires c =
-    let pane_values : PaneValues (pane_at c.args.job.panes c.loop-p.p) =
-    pane_at_lem c.args.job c.requires c.loop-p.p c.loop-p-test.true in
-    pane_values
+load_pane-loaded-requires c = pane_at_lem c.args.job c.requires c.loop-p.p c.loop-p-test.true
 
 pub loop-g-init : goal.loop-g-init
 loop-g-init c = (omega arith, row_none c.load_pane-loaded.result.pane c.args.job.glasses)
-
-pub offset_bounds-job-g : goal.offset_bounds-job-g
-offset_bounds-job-g c =
-    let most_glasses : c.args.job.glass_count ≤ 64 =
-    few_glasses c.args.job c.requires in
-    let few = most_glasses in search rules
-
-pub bounds-job-g : goal.bounds-job-g
-bounds-job-g c =
-    let most_glasses : c.args.job.glass_count ≤ 64 =
-    few_glasses c.args.job c.requires in
-    omega (arith, most_glasses)
-
-pub overflow_add-g : goal.overflow_add-g
-overflow_add-g c =
-    let most_glasses : c.args.job.glass_count ≤ 64 =
-    few_glasses c.args.job c.requires in
-    let few = most_glasses in search rules
-
-pub offset_bounds-rows-p : goal.offset_bounds-rows-p
-offset_bounds-rows-p c = let small = bounds-rows-p c in search rules
-
-pub overflow_add-p : goal.overflow_add-p
-overflow_add-p c = let small = bounds-rows-p c in search rules
-
-pub loop-p-smaller : goal.loop-p-smaller
-loop-p-smaller c = omega (arith, c.loop-p-test.true)
