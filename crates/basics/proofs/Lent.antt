@@ -1,21 +1,18 @@
 -- Laws of lists whose first entries a call writes, one after the other.
 --     written_next         one entry more
---     written_all          all entries
---     written_padded       over an array that repeats one value
 --     zeros_at             an entry of a list of zeros, or past its end
 --     wrote                the first entries and the later ones
 --     map_next, map_long   entries that are worked out one by one: one more, and their number
 --     written_map          such entries are written
-use Prim.Native.Nat.{ℕ, zero, suc, ◌+◌, ◌-◌, ◌≤◌, ◌<◌}
+use Prim.Native.Nat.{ℕ, zero, suc, ◌+◌, ◌≤◌, ◌<◌}
 use mathlib.Core.Path.{◌≡◌, refl, ap, subst, ◌∙◌}
-use mathlib.Core.List.{List, [], ◌∷◌, ◌++◌, map, map-append, append-nil}
-use native.Mathlib.Nat.{sub-zero, zero-sub, suc-sub-suc}
+use mathlib.Core.List.{List, [], ◌∷◌, ◌++◌, map, map-append}
 use native.Mathlib.Numerals.{add-one}
 use native.Mathlib.Omega.{arith}
 use lib.ListN.{length, get_or, set, take, drop, replicate, length-map}
-use lib.Seq.{take-append_seam, drop-append_seam, take-suc, length-take-le, drop-length}
+use lib.Seq.{take-append_seam, drop-append_seam, take-suc, length-take-le}
 use Rattle.basics.specs.Lent.{Lent, Wrote}
-use Rattle.basics.specs.Internal.Arrays.{written, padded}
+use Rattle.basics.specs.Internal.Arrays.{written}
 
 module _ {A : Type 0} where
   pub written_next :
@@ -24,19 +21,6 @@ module _ {A : Type 0} where
   written_next first [] x l = absurd (omega arith)
   written_next [] (b ∷ bs) x l = refl
   written_next (f ∷ fs) (b ∷ bs) x l = ap (λ (r : List A). f ∷ r) (written_next fs bs x (omega arith))
-
-  pub written_all : (first before : List A) → length first ≡ length before → written first before ≡ first
-  written_all first before e = rw (e, drop-length before, append-nil)
-
-  drop_replicate : (n m : ℕ) (x : A) → drop n (replicate m x) ≡ replicate (m - n) x
-  drop_replicate zero m x = rw sub-zero
-  drop_replicate (suc n) zero x = rw zero-sub
-  drop_replicate (suc n) (suc m) x = rw suc-sub-suc (drop_replicate n m x)
-
-  pub written_padded :
-      (first : List A) (size : ℕ) (x : A) →
-      written first (replicate size x) ≡ padded size x first
-  written_padded first size x = rw (drop_replicate (length first) size x)
 
 pub wrote : (first : List ℕ) (l : Lent) → l.after ≡ written first l.before → Wrote first l
 wrote first l is = record {

@@ -1,2 +1,2 @@
--- Lists in arrays, and lists as a call leaves them.
+-- Lists as a call leaves them.
 pub mod Arrays

@@ -1,2 +1,2 @@
-// What no other crate is about: lent lists, lists in arrays, laws of tests. No code, only definitions and laws.
+// What no other crate is about: lent lists, laws of tests. No code, only definitions and laws.
 #![tactic(auto)]

@@ -10,7 +10,8 @@ use Rattle.job_pane.specs.declared.Wind.TheVariants.{ByPressure}
 use Rattle.job_file.specs.File.{accepted, refused, outcome_of}
 use Rattle.span_table.specs.Spans.{max_span}
 use Rattle.point_load.specs.LiveLoad.{live_load}
-use Rattle.point_load.specs.Support.{AR=2, AR=3, two_edge, column_of, span_of}
+use Rattle.span_table.specs.declared.Column.TheVariants.{Ar2, Ar3, TwoEdge}
+use Rattle.point_load.specs.Support.{column_of, span_of}
 use Rattle.uniform_load.specs.GlassLoads.{max_dead_load, min_dead_load}
 use Rattle.uniform_load.specs.UniformLoad.{design_pressure, uniform_load_fails}
 use Rattle.clauses.specs.Kind.{kind_fails}
@@ -59,10 +60,10 @@ pub record ExampleB (kind4 : Glass) : Type 0 where
 -- (c) The columns of four panes, and a file with each of the last two. By the two-edge column 8 mm spans 800, so the last, a ribbon,
 -- fails with it; by AR=3 (1600) it would pass. It passes with 10 mm (1600), by "four".
 pub record ExampleC : Type 0 where
-  pub by_2000 : column_of (some_pane 4 3000 1000 2000 60) ≡ AR=2
-  pub by_2001 : column_of (some_pane 4 3000 1000 2001 60) ≡ AR=3
-  pub by_3000 : column_of (some_pane 4 3000 1000 3000 60) ≡ AR=3
-  pub by_3001 : column_of (some_pane 4 3000 1000 3001 60) ≡ two_edge
+  pub by_2000 : column_of (some_pane 4 3000 1000 2000 60) ≡ Ar2
+  pub by_2001 : column_of (some_pane 4 3000 1000 2001 60) ≡ Ar3
+  pub by_3000 : column_of (some_pane 4 3000 1000 3000 60) ≡ Ar3
+  pub by_3001 : column_of (some_pane 4 3000 1000 3001 60) ≡ TwoEdge
   pub accepts_3000 : outcome_of pane3000 ≡ accepted [] (pane_c 3000 ∷ [])
   pub accepts_3001 : outcome_of pane3001 ≡ accepted (glass8 ∷ glass10 ∷ []) (pane_c 3001 ∷ [])
   pub with_8 : verdict_of (pane_c 3001) glass8 ≡ Fails 3
@@ -70,8 +71,8 @@ pub record ExampleC : Type 0 where
 
 -- (d) The span at 5 tenths of a kN is shorter than that at 11.
 pub record ExampleD : Type 0 where
-  pub at_5 : max_span 2 5 10 AR=3 ≡ 1800
-  pub at_11 : max_span 2 11 10 AR=3 ≡ 2000
+  pub at_5 : max_span 2 5 10 Ar3 ≡ 1800
+  pub at_11 : max_span 2 11 10 Ar3 ≡ 2000
 
 -- (e) The maximum is of the row at 30 degrees, and the minimum of that at 35.
 pub record ExampleE : Type 0 where
@@ -121,5 +122,5 @@ pub record Examples : Type 0 where
   pub h : ExampleH
   pub i : ExampleI
   -- why pane 2 of (j) needs 12 mm
-  pub j_span : max_span 1 11 10 AR=2 ≡ 350
+  pub j_span : max_span 1 11 10 Ar2 ≡ 350
   pub j : (c : Call) → 2 ≤ length c.answer_list.before → 2 ≤ length c.group_list.before → Promised (outcome_of job_j) c → ExampleJ c

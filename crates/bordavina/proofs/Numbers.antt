@@ -4,23 +4,21 @@ use Prim.Native.Nat.{ℕ}
 use mathlib.Core.Path.{◌≡◌, refl}
 use mathlib.Core.Logic.{◌↔◌}
 use mathlib.Core.Bool.{Bool, true, false}
-use mathlib.Core.List.{List}
 use native.Mathlib.Omega.{arith}
 use lib.ListN.{length}
+use Rattle.std.specs.Prelude.{Option, Some, None, find, nat_eq}
 use Rattle.causes.specs.Cause.{number_of}
 use Rattle.causes.specs.declared.Cause.{Cause}
-use Rattle.causes.specs.declared.Cause.TheVariants.{ListTooShort}
+use Rattle.causes.specs.declared.Cause.TheVariants.{ListTooShort, NoPane, NoGlass}
 use Rattle.causes.proofs.Numbers.{numbered}
 use Rattle.job_glass.specs.declared.Glass.{Glass}
 use Rattle.job_pane.specs.declared.Pane.{Pane}
 use Rattle.job_file.specs.File.{Outcome, accepted, refused}
-use Rattle.job_file.specs.Entries.{glass_ids_of, pane_ids_of, stocks_of}
+use Rattle.job_file.specs.Entries.{stocks_of}
 use Rattle.job_file.specs.CheckAnswer.{check_answer}
-use Rattle.clauses.specs.declared.question.PairPlace.{PairPlace}
-use Rattle.clauses.specs.declared.question.PairPlace.TheVariants.{Both, Unknown}
 use Rattle.clauses.specs.VerdictAnswer.{verdict_answer}
-use Rattle.clauses.specs.Internal.Pair.{pair_of, pair_answer}
-use Rattle.clauses.proofs.Laws.{answer_pair}
+use Rattle.clauses.specs.Internal.Found.{found_answer}
+use Rattle.clauses.proofs.Answers.{answer_found}
 use Rattle.row_placing.specs.Schedule.{Schedule}
 use Rattle.placing.specs.FileSchedule.{schedule_of}
 use Rattle.placing.specs.Promise.{Call, RefusedCall, is_too_short, PromisedOf, Promised}
@@ -34,11 +32,12 @@ check_tells : (o : Outcome) → (check_result (check_answer o)).number ≡ 0 ↔
 check_tells (accepted glasses panes) = (λ zero. tt, λ is. refl)
 check_tells (refused cause offset) = refuses_tells cause
 
-pair_tells :
-    (glasses : List Glass) (panes : List Pane) (pair : PairPlace) →
-    (verdict_result (pair_answer glasses panes pair)).number ≡ 0 ↔ NotRefused (pair_answer glasses panes pair)
-pair_tells glasses panes (Both p g) = (λ zero. tt, λ is. refl)
-pair_tells glasses panes (Unknown cause) = refuses_tells cause
+found_tells :
+    (pane : Option Pane) (glass : Option Glass) →
+    (verdict_result (found_answer pane glass)).number ≡ 0 ↔ NotRefused (found_answer pane glass)
+found_tells None glass = refuses_tells NoPane
+found_tells (Some p) None = refuses_tells NoGlass
+found_tells (Some p) (Some g) = (λ zero. tt, λ is. refl)
 
 verdict_tells :
     (o : Outcome) (pane glass : ℕ) →
@@ -46,8 +45,8 @@ verdict_tells :
 unfolding verdict_answer
 verdict_tells (refused cause offset) pane glass = refuses_tells cause
 verdict_tells (accepted glasses panes) pane glass =
-    rw (answer_pair glasses panes pane glass)
-    (pair_tells glasses panes (pair_of (glass_ids_of glasses) (pane_ids_of panes) pane glass))
+    rw (← answer_found glasses panes pane glass)
+    (found_tells (find (λ p. nat_eq p.id pane) panes) (find (λ g. nat_eq g.id glass) glasses))
 
 result_refused :
     (c : Call) (cause : Cause) (offset : ℕ) → RefusedCall cause offset c →

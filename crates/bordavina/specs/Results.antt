@@ -3,7 +3,8 @@
 use Rattle.std.specs.Prelude.{ℕ, ◌≡◌, ◌↔◌, List}
 use Rattle.causes.specs.Answer.{Answer, gives, refuses}
 use Rattle.job_file.specs.File.{Outcome}
-use Rattle.job_file.specs.CheckAnswer.{FileCounts, check_answer}
+use Rattle.job_file.specs.CheckAnswer.{check_answer}
+use Rattle.job_file.specs.declared.FileCounts.{FileCounts}
 use Rattle.clauses.specs.declared.judging.Verdict.{Verdict}
 use Rattle.clauses.specs.declared.judging.Verdict.TheVariants.{Passes, Fails}
 use Rattle.clauses.specs.VerdictAnswer.{verdict_answer}

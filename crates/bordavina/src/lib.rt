@@ -16,14 +16,13 @@ use job_file::check;
 use placing::place;
 use report::report;
 pub use results::{CheckResult, PlaceResult, VerdictResult};
-use results::{check_result, place_result, verdict_result};
 
 // Whether a file is accepted.
 #[unsafe(no_mangle)]
 pub extern "C" fn bordavina_check(file: &[u8]) -> CheckResult
     ensures { result ≡ check_result (check_answer (outcome_of file.now)) }
 {
-    check_result(check(file))
+    check(file).into()
 }
 
 // Whether the glass of that id may be used for the pane of that id.
@@ -31,7 +30,7 @@ pub extern "C" fn bordavina_check(file: &[u8]) -> CheckResult
 pub extern "C" fn bordavina_verdict(file: &[u8], pane: u32, glass: u32) -> VerdictResult
     ensures { result ≡ verdict_result (verdict_answer (outcome_of file.now) pane glass) }
 {
-    verdict_result(verdict(file, pane, glass))
+    verdict(file, pane, glass).into()
 }
 
 // Gives the panes of a file sheets: the answers, the counts and a short group, from its lowest id up.
@@ -44,7 +43,7 @@ pub extern "C" fn bordavina_place(
     ensures { PlacedAs (outcome_of file.now) result answers.old answers.new
         short_group.old short_group.new }
 {
-    place_result(place(file, answers, short_group))
+    place(file, answers, short_group).into()
 }
 
 // Writes the text that `canopy` prints of a file, and answers how many bytes it has.

@@ -1,18 +1,16 @@
-// Results as structs of numbers: specs/Results.antt.
+// Results as structs of numbers, since C has no `Result`: specs/Results.antt. What a case does not use is 0. Each is made from a `Result`
+// by a `From` of its own: they share a number and an offset alone, so one generic conversion would be no plainer.
 ghost use Rattle.std.specs.Prelude.{◌≡◌};
-ghost use Rattle.job_file.specs.CheckAnswer.{checked_says};
-ghost use Rattle.clauses.specs.VerdictAnswer.{ruling_says};
-ghost use Rattle.placing.specs.Promise.{placed_says};
-ghost use Rattle.bordavina.specs.Results.{check_result, clause_of, verdict_result, place_result};
+ghost use Rattle.bordavina.specs.Results.{clause_of};
 
-use causes::number_of;
-use clauses::{Ruling, Verdict};
-use job_file::Checked;
-use placing::Placed;
+use causes::Refusal;
+use clauses::Verdict;
+use job_file::FileCounts;
+use row_placing::PlaceCounts;
 
 // Of a check: number 0 and the counts, or a refusal's number and offset.
 #[repr(C)]
-#[derive(Drop)]
+#[derive(Clone, Copy, Debug, Default, PartialEq, Eq)]
 pub struct CheckResult {
     pub number: usize,
     pub offset: usize,
@@ -22,7 +20,7 @@ pub struct CheckResult {
 
 // Of a verdict: number 0 and the clause that fails, 0 for none; or a refusal's number and offset.
 #[repr(C)]
-#[derive(Drop)]
+#[derive(Clone, Copy, Debug, Default, PartialEq, Eq)]
 pub struct VerdictResult {
     pub number: usize,
     pub offset: usize,
@@ -31,7 +29,7 @@ pub struct VerdictResult {
 
 // Of a placing: number 0 and the counts, or a refusal's number and offset.
 #[repr(C)]
-#[derive(Drop)]
+#[derive(Clone, Copy, Debug, Default, PartialEq, Eq)]
 pub struct PlaceResult {
     pub number: usize,
     pub offset: usize,
@@ -40,72 +38,81 @@ pub struct PlaceResult {
     pub group: usize,
 }
 
-pub fn check_result(checked: Checked) -> CheckResult
-    ensures { result ≡ check_result (checked_says checked) }
-{
-    match checked {
-        Checked::Accepted {
-            glass_count,
-            pane_count,
-        } => CheckResult {
-            number: 0,
-            offset: 0,
-            glasses: glass_count,
-            panes: pane_count,
-        },
-        Checked::Refused { cause, offset } => CheckResult {
-            number: number_of(cause) as usize,
-            offset,
-            glasses: 0,
-            panes: 0,
-        },
+impl From<Result<FileCounts, Refusal>> for CheckResult {
+    ghost use Rattle.std.specs.Prelude.{◌≡◌};
+    ghost use Rattle.causes.specs.Answer.{answer_of};
+    ghost use Rattle.bordavina.specs.Results.{check_result};
+
+    ghost from_gives = { λ checked result. result ≡ check_result (answer_of checked) };
+
+    fn from(checked: Result<FileCounts, Refusal>) -> CheckResult {
+        match checked {
+            Ok(counts) => CheckResult {
+                glasses: counts.glasses,
+                panes: counts.panes,
+                ..CheckResult::default()
+            },
+            Err(refusal) => CheckResult {
+                number: u32::from(refusal.cause) as usize,
+                offset: refusal.offset,
+                ..CheckResult::default()
+            },
+        }
     }
 }
 
-pub fn verdict_result(ruling: Ruling) -> VerdictResult
-    ensures { result ≡ verdict_result (ruling_says ruling) }
-{
-    match ruling {
-        Ruling::Ruled(v) => VerdictResult {
-            number: 0,
-            offset: 0,
-            clause: clause_of(v),
-        },
-        Ruling::Refused { cause, offset } => VerdictResult {
-            number: number_of(cause) as usize,
-            offset,
-            clause: 0,
-        },
+impl From<Result<Verdict, Refusal>> for VerdictResult {
+    ghost use Rattle.std.specs.Prelude.{◌≡◌};
+    ghost use Rattle.causes.specs.Answer.{answer_of};
+    ghost use Rattle.bordavina.specs.Results.{verdict_result};
+
+    ghost from_gives = { λ ruling result. result ≡ verdict_result (answer_of ruling) };
+
+    fn from(ruling: Result<Verdict, Refusal>) -> VerdictResult {
+        match ruling {
+            Ok(verdict) => VerdictResult {
+                clause: clause_of(verdict),
+                ..VerdictResult::default()
+            },
+            Err(refusal) => VerdictResult {
+                number: u32::from(refusal.cause) as usize,
+                offset: refusal.offset,
+                ..VerdictResult::default()
+            },
+        }
     }
 }
 
-// The clause that fails, or 0.
+impl From<Result<PlaceCounts, Refusal>> for PlaceResult {
+    ghost use Rattle.std.specs.Prelude.{◌≡◌};
+    ghost use Rattle.causes.specs.Answer.{answer_of};
+    ghost use Rattle.bordavina.specs.Results.{place_result};
+
+    ghost from_gives = { λ placed result. result ≡ place_result (answer_of placed) };
+
+    fn from(placed: Result<PlaceCounts, Refusal>) -> PlaceResult {
+        match placed {
+            Ok(counts) => PlaceResult {
+                wanted: counts.wanted,
+                placed: counts.placed,
+                group: counts.group,
+                ..PlaceResult::default()
+            },
+            Err(refusal) => PlaceResult {
+                number: u32::from(refusal.cause) as usize,
+                offset: refusal.offset,
+                ..PlaceResult::default()
+            },
+        }
+    }
+}
+
+// The clause that fails, or 0. It is no `From`: neither `Verdict` nor `usize` is of this crate.
 fn clause_of(v: Verdict) -> usize
     ensures { result ≡ clause_of v }
 {
     match v {
         Verdict::Passes => 0,
         Verdict::Fails(clause) => clause as usize,
-    }
-}
-
-pub fn place_result(placed: Placed) -> PlaceResult
-    ensures { result ≡ place_result (placed_says placed) }
-{
-    match placed {
-        Placed::Counts(counts) => PlaceResult {
-            number: 0,
-            offset: 0,
-            wanted: counts.wanted,
-            placed: counts.placed,
-            group: counts.group,
-        },
-        Placed::Refused { cause, offset } => PlaceResult {
-            number: number_of(cause) as usize,
-            offset,
-            wanted: 0,
-            placed: 0,
-            group: 0,
-        },
     }
 }

@@ -1,10 +1,11 @@
 -- Document 01, "What each cause gives": what a call answers. Every call answers in this form.
-use Rattle.std.specs.Prelude.{ℕ}
+use Rattle.std.specs.Prelude.{ℕ, Result, Ok, Err}
 use Rattle.causes.specs.Cause.{number_of}
 use Rattle.causes.specs.declared.Cause.{Cause}
+use Rattle.causes.specs.declared.Refusal.{Refusal}
 
--- What the call gives where it isn't refused, an `A`; or the number of the cause and the offset. (What a file says is `refused`, and the
--- code's enums have a case `Refused`.)
+-- What the call gives where it isn't refused, an `A`; or the number of the cause and the offset. (What a file says is
+-- `refused`.)
 pub data Answer (A : Type 0) : Type 0 where
   gives : A → Answer A
   refuses : (number offset : ℕ) → Answer A
@@ -12,3 +13,8 @@ pub data Answer (A : Type 0) : Type 0 where
 -- The answer of a call that is refused for a cause.
 abbrev pub refusal : {A : Type 0} → Cause → ℕ → Answer A
 refusal cause offset = refuses (number_of cause) offset
+
+-- What the result of the code's call says: its value, or its refusal's number and offset.
+abbrev pub answer_of : {A : Type 0} → Result A Refusal → Answer A
+answer_of (Ok value) = gives value
+answer_of (Err r) = refusal r.cause r.offset

@@ -1,12 +1,13 @@
-// Why a call is refused: document 01, "What each cause gives", less number 7, which document 02, 2026-01, takes away. The numbers of
-// refusals stand here and nowhere else in the code.
+// Why a call or a file is refused: document 01, "What each cause gives", less number 7, which document 02, 2026-01, takes away. The
+// numbers of refusals stand here and nowhere else in the code.
 #![tactic(auto)]
 
 ghost use Rattle.std.specs.Prelude.{◌≡◌};
-ghost use Rattle.causes.specs.Cause.{number_of};
+
+use std::fmt;
 
 // A cause of document 01's table, in its order. Requests add theirs at the end, with the numbers 12 to 19; none takes 7 again.
-#[derive(Clone, Copy)]
+#[derive(Clone, Copy, Debug, PartialEq, Eq)]
 pub enum Cause {
     // of the file
     FileLength,
@@ -22,20 +23,74 @@ pub enum Cause {
     NoGlass,
 }
 
+// Why a call or a file is refused, and where in the file.
+#[derive(Clone, Copy, Debug, PartialEq, Eq)]
+pub struct Refusal {
+    pub cause: Cause,
+    pub offset: usize,
+}
+
+impl Cause {
+    // The refusal for this cause at an offset of the file; a call that is refused for what came with the file is at 0.
+    pub fn at(self, offset: usize) -> Refusal
+        ensures { result ≡ record { cause = self; offset = offset } }
+    {
+        Refusal {
+            cause: self,
+            offset,
+        }
+    }
+}
+
 // A cause's number.
-pub fn number_of(cause: Cause) -> u32
-    ensures { result ≡ number_of cause }
-{
-    match cause {
-        Cause::FileLength => 1,
-        Cause::NoTrailer => 2,
-        Cause::PartOffsets => 3,
-        Cause::LineForm => 4,
-        Cause::NumberValue => 5,
-        Cause::RepeatedId => 6,
-        Cause::TooManyLines => 8,
-        Cause::ListTooShort => 9,
-        Cause::NoPane => 10,
-        Cause::NoGlass => 11,
+impl From<Cause> for u32 {
+    ghost use Rattle.causes.specs.Cause.{number_of};
+
+    ghost from_gives = { λ cause number. number ≡ number_of cause };
+
+    fn from(cause: Cause) -> u32 {
+        match cause {
+            Cause::FileLength => 1,
+            Cause::NoTrailer => 2,
+            Cause::PartOffsets => 3,
+            Cause::LineForm => 4,
+            Cause::NumberValue => 5,
+            Cause::RepeatedId => 6,
+            Cause::TooManyLines => 8,
+            Cause::ListTooShort => 9,
+            Cause::NoPane => 10,
+            Cause::NoGlass => 11,
+        }
+    }
+}
+
+// A cause in plain words, and what to do about it.
+impl fmt::Display for Cause {
+    ghost use Rattle.std.specs.Prelude.{Some};
+    ghost use Rattle.causes.specs.Words.{words_of};
+
+    ghost output = { λ cause. Some (words_of cause) };
+
+    fn fmt<W: fmt::Write>(&self, f: &mut fmt::Formatter<W>) -> fmt::Result {
+        f.write_str(match self {
+            Cause::FileLength =>
+                "the file is under 14 or over 65,535 bytes; is it the whole job file, and are its notes short enough?",
+            Cause::NoTrailer =>
+                "the file does not end in T, a space, five digits, a space, five digits and a newline",
+            Cause::PartOffsets =>
+                "the last line's numbers, where the glass part and the pane part begin, are out of order or too large",
+            Cause::LineForm =>
+                "the line is not G and 8 numbers, or P or Q and 9, with one space before each, no zeros in front and a newline",
+            Cause::NumberValue =>
+                "a number is not among its allowed values; compare the line with the description of the job file",
+            Cause::RepeatedId =>
+                "the id is already on an earlier line of this part; give the line an id of its own",
+            Cause::TooManyLines =>
+                "the part has more than 64 glass lines or 256 pane lines; divide the job into several files",
+            Cause::ListTooShort =>
+                "a list that was lent has fewer entries than the file has panes; lend one with an entry for each pane",
+            Cause::NoPane => "no pane of the file has that id",
+            Cause::NoGlass => "no glass of the file has that id",
+        })
     }
 }

@@ -1,46 +1,24 @@
 // A refusal in plain words: a line on standard error with the place in the file, the cause and what to do about it.
 use crate::place::line_number;
-use crate::wind::{WindFault, line_fault};
-use causes::{Cause, number_of};
-use job_tool::{StandardError, say, say_number};
+use crate::wind::line_fault;
+use causes::{Cause, Refusal};
 
-pub(crate) fn explain(rt: &impl StandardError, cause: Cause, file: &[u8], offset: usize) {
-    say(rt, b"line ");
-    say_number(rt, line_number(file, offset) as u64);
-    say(rt, b", byte ");
-    say_number(rt, offset as u64);
-    say(rt, b" (counted from 0): cause ");
-    say_number(rt, number_of(cause) as u64);
-    say(rt, b", ");
-    job_tool::say_cause(rt, cause);
+pub(crate) fn explain(rt: &impl Eprint, file: &[u8], refusal: Refusal) {
+    let Refusal { cause, offset } = refusal;
+    let line = line_number(file, offset);
+    let number = u32::from(cause);
+    let _ = eprint!(rt; "line {line}, byte {offset} (counted from 0): cause {number}, {cause}");
     match cause {
-        Cause::NumberValue => say_wind(rt, line_fault(file, offset)),
-        Cause::LineForm => say_letter(rt, file, offset),
+        Cause::NumberValue => {
+            if let Some(fault) = line_fault(file, offset) {
+                let _ = eprint!(rt; "; {fault}");
+            }
+        }
+        // the class of a line that begins with `Q` may have been written by its name
+        Cause::LineForm if matches!(file.get(offset), Some(b'Q')) => {
+            let _ = eprint!(rt; "; the class of a Q line is a number, 2 for N2");
+        }
         _ => {}
     }
-    say(rt, b"\n");
-}
-
-// The classes or the zones that there are, where a line has another.
-fn say_wind(rt: &impl StandardError, fault: WindFault) {
-    match fault {
-        WindFault::NoClass => say(
-            rt,
-            b"; the class of a Q line is 1 to 6 for N1 to N6, or 7 to 10 for C1 to C4",
-        ),
-        WindFault::NoZone => say(
-            rt,
-            b"; the zone of a Q line is 1, away from the edges of the roof, or 2, up to 1.2 m from one",
-        ),
-        WindFault::NoFault => {}
-    }
-}
-
-// Of a line that begins with `Q`: its class may have been written by its name.
-fn say_letter(rt: &impl StandardError, file: &[u8], offset: usize) {
-    if offset < file.len() {
-        if file[offset] == b'Q' {
-            say(rt, b"; the class of a Q line is a number, 2 for N2");
-        }
-    }
+    let _ = eprintln!(rt);
 }

@@ -6,5 +6,3 @@ pub use Rattle.clauses.proofs.SightLaws.{sight_laws}
 -- Of panes by wind class: the verdict is that of the pane with their pressures, whose numbers are allowed.
 pub use Rattle.clauses.proofs.WindLaws.{wind_laws}
 pub use Rattle.uniform_load.proofs.AsPressures.{as_pressures_laws}
--- The answer to a question about an accepted file, by the places of the two ids.
-pub use Rattle.clauses.proofs.Answers.{answer_pair}

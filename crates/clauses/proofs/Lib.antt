@@ -4,6 +4,5 @@ pub mod Laws
 pub mod VerdictLaws
 pub mod SightLaws
 pub mod WindLaws
--- The verdict, and the answers to questions.
-pub mod Verdicts
+-- The answers to questions.
 pub mod Answers

@@ -4,6 +4,7 @@ use Rattle.job_glass.specs.declared.Glass.{Glass}
 use Rattle.job_pane.specs.declared.Pane.{Pane}
 use Rattle.job_pane.specs.Sides.{in_proportion}
 use Rattle.cut_size.specs.Size.{size_fails}
+use Rattle.span_table.specs.declared.Column.{Column}
 use Rattle.point_load.specs.Support.{span_of}
 use Rattle.point_load.specs.PointLoad.{entry_in, point_load_fails}
 use Rattle.point_load.specs.RibbonLaws.{column_before}
@@ -54,7 +55,7 @@ with_stock stock g = record {
 }
 
 -- The verdict, if clause 3 read its entry in this column.
-abbrev pub verdict_in : (column : ℕ) → Pane → Glass → Verdict
+abbrev pub verdict_in : Column → Pane → Glass → Verdict
 verdict_in column p g =
     first_failure (kind_fails p g) (size_fails p g) (ltb (entry_in column p g) (span_of p)) (uniform_load_fails p g)
 

@@ -1,21 +1,18 @@
 -- Document 01, what the call `verdict` answers, "What each cause gives" and "The four clauses": demands 1 and 2. Of every file and any
 -- two ids it is the verdict, or the first cause why there is none.
-use Rattle.std.specs.Prelude.{ℕ}
+use Rattle.std.specs.Prelude.{ℕ, Some, None, Result}
 use Rattle.ids.specs.Lookup.{place_of}
-use Rattle.ids.specs.declared.IdPlace.TheVariants.{At, Missing}
-use Rattle.causes.specs.Answer.{Answer, gives, refusal}
+use Rattle.causes.specs.Answer.{Answer, gives, refusal, answer_of}
 use Rattle.causes.specs.declared.Cause.TheVariants.{NoPane, NoGlass}
+use Rattle.causes.specs.declared.Refusal.{Refusal}
 use Rattle.job_file.specs.File.{Outcome, accepted, refused}
 use Rattle.job_file.specs.Entries.{glass_at, pane_at, glass_ids_of, pane_ids_of}
 use Rattle.clauses.specs.Verdict.{verdict_of}
 use Rattle.clauses.specs.declared.judging.Verdict.{Verdict}
-use Rattle.clauses.specs.declared.Ruling.{Ruling}
-use Rattle.clauses.specs.declared.Ruling.TheVariants.{Ruled, Refused}
 
--- What each case of the code's answer says.
-abbrev pub ruling_says : Ruling → Answer Verdict
-ruling_says (Ruled verdict) = gives verdict
-ruling_says (Refused cause offset) = refusal cause offset
+-- What the code's answer says.
+abbrev pub ruling_says : Result Verdict Refusal → Answer Verdict
+ruling_says = answer_of
 
 -- The answer that a question about the pane and the glass of two ids should have: the file's own refusal comes first, then that of
 -- an unknown pane, then that of an unknown glass.
@@ -23,10 +20,10 @@ unfoldable pub verdict_answer : Outcome → (pane_id glass_id : ℕ) → Answer 
 verdict_answer (refused cause offset) pane_id glass_id = refusal cause offset
 verdict_answer (accepted glasses panes) pane_id glass_id =
     elim (place_of pane_id (pane_ids_of panes)) [
-      | Missing ↦ refusal NoPane 0
-      | At p ↦
+      | None ↦ refusal NoPane 0
+      | Some p ↦
           elim (place_of glass_id (glass_ids_of glasses)) [
-            | Missing ↦ refusal NoGlass 0
-            | At g ↦ gives (verdict_of (pane_at panes p) (glass_at glasses g))
+            | None ↦ refusal NoGlass 0
+            | Some g ↦ gives (verdict_of (pane_at panes p) (glass_at glasses g))
           ]
     ]

@@ -1,75 +1,67 @@
 // The verdict of a pane and a glass held as values: specs/Verdict.antt.
 ghost use Rattle.std.specs.Prelude.{◌≡◌};
-ghost use Rattle.job_glass.specs.Internal.Values.{GlassValues};
-ghost use Rattle.job_pane.specs.Internal.Values.{PaneValues};
+ghost use Rattle.point_load.specs.Internal.Steps.{point_load_of};
+ghost use Rattle.uniform_load.specs.Internal.Steps.{uniform_load_of};
 ghost use Rattle.clauses.specs.Verdict.{verdict_of};
-ghost use Rattle.clauses.specs.Internal.Loaded.{HasTables, loaded_of};
 
 use crate::kind::is_barred;
-use crate::tables::{ClauseTables, clause_tables};
 use cut_size::is_too_small;
 use job_glass::Glass;
 use job_pane::Pane;
-use point_load::{PointLoad, is_too_wide, point_load_of};
-use uniform_load::{UniformLoad, is_overloaded, uniform_load_of};
+use point_load::PointLoad;
+use uniform_load::UniformLoad;
 
-// Whether a glass may be used for a pane, and if not, by which clause.
-#[derive(Drop)]
+// Whether a glass may be used for a pane, and if not, by which clause: a number from 1 to 4, as document 01 counts the clauses and the
+// library for C answers them.
+#[derive(Clone, Copy, PartialEq, Eq)]
 pub enum Verdict {
     Passes,
     Fails(u32),
 }
 
-// What load_pane works out once, for all the glasses that a pane is tried with.
+// A pane with what clauses 3 and 4 read of it, worked out once for all the glasses that it is tried with.
 #[derive(Clone, Copy)]
 pub struct LoadedPane {
     pub pane: Pane,
     pub point: PointLoad,
     pub uniform: UniformLoad,
+    pub ghost point_is: { point ≡ point_load_of pane },
+    pub ghost uniform_is: { uniform ≡ uniform_load_of pane },
 }
 
-// A pane with what clauses 3 and 4 read of it.
-pub fn load_pane(pane: Pane) -> LoadedPane
-    requires { PaneValues pane }
-    ensures { result ≡ loaded_of pane }
-{
-    let point = point_load_of(pane);
-    let uniform = uniform_load_of(pane);
-    LoadedPane {
-        pane,
-        point,
-        uniform,
+impl LoadedPane {
+    pub fn of(pane: Pane) -> Self
+        ensures { result.pane ≡ pane }
+    {
+        LoadedPane {
+            pane,
+            point: PointLoad::of(pane),
+            uniform: UniformLoad::of(pane),
+        }
+    }
+
+    // The verdict by the first of the four clauses that fails.
+    #[tactic(auto, unfolding(crate::specs::Verdict::verdict_of))]
+    pub fn judge(&self, glass: Glass) -> Verdict
+        ensures { result ≡ verdict_of self.now.pane glass }
+    {
+        if is_barred(self.pane, glass) {
+            Verdict::Fails(1)
+        } else if is_too_small(self.pane, glass) {
+            Verdict::Fails(2)
+        } else if self.point.is_too_wide_for(glass) {
+            Verdict::Fails(3)
+        } else if self.uniform.overloads(glass) {
+            Verdict::Fails(4)
+        } else {
+            Verdict::Passes
+        }
     }
 }
 
 // The verdict of a pane and a glass.
 pub fn judge(pane: Pane, glass: Glass) -> Verdict
-    requires { PaneValues pane × GlassValues glass }
     ensures { result ≡ verdict_of pane glass }
 {
-    let tables = clause_tables();
-    judge_loaded(&tables, load_pane(pane), glass)
-}
-
-// The verdict of a pane that was loaded before, and a glass.
-pub fn judge_loaded(tables: &ClauseTables, loaded: LoadedPane, glass: Glass) -> Verdict
-    requires { HasTables tables.now × (loaded ≡ loaded_of loaded.pane) × PaneValues loaded.pane × GlassValues glass }
-    ensures { result ≡ verdict_of loaded.pane glass }
-{
-    let pane = loaded.pane;
-    if is_barred(pane, glass) {
-        return Verdict::Fails(1);
-    }
-    if is_too_small(pane, glass) {
-        return Verdict::Fails(2);
-    }
-    let point = loaded.point;
-    if is_too_wide(tables, point, glass) {
-        return Verdict::Fails(3);
-    }
-    let uniform = loaded.uniform;
-    if is_overloaded(uniform, glass) {
-        return Verdict::Fails(4);
-    }
-    Verdict::Passes
+    LoadedPane::of(pane).judge(glass)
 }

@@ -9,5 +9,5 @@ use job_pane::Pane;
 pub fn is_barred(pane: Pane, glass: Glass) -> bool
     ensures { result ≡ kind_fails pane glass }
 {
-    (3000 <= pane.top) & (glass.kind == 4)
+    3000 <= pane.top && glass.kind == 4
 }

@@ -1,26 +1,18 @@
-// Which pane and which glass a question is about: specs/Internal/Pair.antt.
+// The answer to a question by the pane and the glass that are found: specs/Internal/Found.antt.
 ghost use Rattle.std.specs.Prelude.{◌≡◌};
-ghost use Rattle.clauses.specs.Internal.Pair.{pair_of};
+ghost use Rattle.clauses.specs.VerdictAnswer.{ruling_says};
+ghost use Rattle.clauses.specs.Internal.Found.{found_answer};
 
-use causes::Cause;
-use ids::{IdPlace, find_id};
+use crate::judging::{Verdict, judge};
+use causes::{Cause, Refusal};
+use job_glass::Glass;
+use job_pane::Pane;
 
-// The places of a pane and a glass, counted from 0, or why there are none.
-#[derive(Drop)]
-pub enum PairPlace {
-    Both(usize, usize),
-    Unknown(Cause),
-}
-
-// The pane and the glass of these ids. An unknown pane comes before an unknown glass.
-pub fn find_pair(glass_ids: &[u32], pane_ids: &[u32], pane: u32, glass: u32) -> PairPlace
-    ensures { result ≡ pair_of glass_ids.now pane_ids.now pane glass }
+// The verdict of what was found. An unknown pane comes before an unknown glass, and no offset of the file is to blame for either.
+pub fn judge_found(pane: Option<Pane>, glass: Option<Glass>) -> Result<Verdict, Refusal>
+    ensures { ruling_says result ≡ found_answer pane glass }
 {
-    match find_id(pane_ids, pane) {
-        IdPlace::Missing => PairPlace::Unknown(Cause::NoPane),
-        IdPlace::At(p) => match find_id(glass_ids, glass) {
-            IdPlace::Missing => PairPlace::Unknown(Cause::NoGlass),
-            IdPlace::At(g) => PairPlace::Both(p, g),
-        },
-    }
+    let pane = pane.ok_or(Cause::NoPane.at(0))?;
+    let glass = glass.ok_or(Cause::NoGlass.at(0))?;
+    Ok(judge(pane, glass))
 }

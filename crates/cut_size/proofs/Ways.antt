@@ -4,12 +4,12 @@
 --     too_small_is      the two tests are the definition's, of any sides
 --     by_sides          and of a pane and a glass
 use Prim.Native.Nat.{ℕ, ◌≤◌, min, max}
-use mathlib.Core.Path.{◌≡◌, refl}
+use mathlib.Core.Path.{◌≡◌, refl, sym, ◌∙◌}
 use mathlib.Core.Bool.{Bool, true, false, not, ◌&&◌, ◌||◌}
 use native.Mathlib.Omega.{arith}
 use lib.Dec.{leb, ltb}
-use borrow.Author.Tests.{leb-true, leb-false, ltb-false, le-leb, le-ltb}
-use Rattle.basics.proofs.Tests.{both_true, both_false}
+use borrow.Author.Tests.{ltb-false}
+use Rattle.basics.proofs.Tests.{both_false}
 use Rattle.job_glass.specs.declared.Glass.{Glass}
 use Rattle.job_pane.specs.declared.Pane.{Pane}
 use Rattle.cut_size.specs.EdgeCover.{edge_cover}
@@ -30,43 +30,23 @@ module _ (w h sheet_w sheet_h : ℕ) where
 
   -- No ordered side is longer than the sheet's: then neither test finds one.
   pub no_side_longer : min w h ≤ min sheet_w sheet_h → max w h ≤ max sheet_w sheet_h → (too_narrow || too_low) ≡ false
-  no_side_longer x y = rw (le-ltb (min sheet_w sheet_h) (min w h) x, le-ltb (max sheet_w sheet_h) (max w h) y)
+  no_side_longer x y = grind arith
 
-  -- So where the cut lies within the sheet's sides, taken in either order, neither does.
-  one_way :
-      (a b : ℕ) → min a b ≡ min sheet_w sheet_h → max a b ≡ max sheet_w sheet_h →
-      (leb w a && leb h b) ≡ true → (too_narrow || too_low) ≡ false
-  one_way a b x y e =
-      let t = both_true (leb w a) (leb h b) e in
-      let l = leb-true w a t.0 in
-      let r = leb-true h b t.1 in
-      no_side_longer (omega (arith, x, l, r)) (omega (arith, y, l, r))
+  one_way : (upright || turned) ≡ true → (too_narrow || too_low) ≡ false
+  one_way e = grind arith
 
-  -- And where no ordered side is longer, the cut lies within, upright or turned.
   some_way : min w h ≤ min sheet_w sheet_h → max w h ≤ max sheet_w sheet_h → (upright || turned) ≡ true
-  some_way x y = go (leb w sheet_w) (leb h sheet_h) refl refl
-    where
-      go : (a b : Bool) → leb w sheet_w ≡ a → leb h sheet_h ≡ b → (upright || turned) ≡ true
-      go true true e f = rw (e, f)
-      go true false e f =
-          let z = leb-false h sheet_h f in
-          rw (e, f, le-leb w sheet_h (omega (arith, x, y, z)), le-leb h sheet_w (omega (arith, x, y, z)))
-      go false b e f =
-          let z = leb-false w sheet_w e in
-          rw (e, le-leb w sheet_h (omega (arith, x, y, z)), le-leb h sheet_w (omega (arith, x, y, z)))
+  some_way x y = grind arith
 
   pub too_small_is : (too_narrow || too_low) ≡ not (upright || turned)
-  too_small_is = go upright turned (too_narrow || too_low) refl refl refl
+  too_small_is = go (upright || turned) (too_narrow || too_low) refl refl
     where
-      go :
-          (u t s : Bool) → upright ≡ u → turned ≡ t → (too_narrow || too_low) ≡ s →
-          (too_narrow || too_low) ≡ not (upright || turned)
-      go true t s e f is = rw e (one_way sheet_w sheet_h refl refl e)
-      go false true s e f is = rw (e, f) (one_way sheet_h sheet_w (omega arith) (omega arith) f)
-      go false false true e f is = rw (e, f, is)
-      go false false false e f is =
+      go : (fits long : Bool) → (upright || turned) ≡ fits → (too_narrow || too_low) ≡ long → long ≡ not fits
+      go true long e is = sym is ∙ one_way e
+      go false true e is = refl
+      go false false e is =
           let none = both_false too_narrow too_low is in
-          rw (is, some_way (ltb-false _ _ none.0) (ltb-false _ _ none.1))
+          sym e ∙ some_way (ltb-false _ _ none.0) (ltb-false _ _ none.1)
 
 pub by_sides :
     (p : Pane) (g : Glass) →

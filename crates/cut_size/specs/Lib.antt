@@ -3,4 +3,3 @@ pub mod EdgeCover
 pub mod Size
 -- Clause 2 by sight size, and what follows for it.
 pub mod SightSize
-pub mod Internal

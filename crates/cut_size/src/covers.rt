@@ -8,8 +8,7 @@ pub fn edge_cover(thick: u32) -> u32
 {
     match thick {
         6 => 6,
-        8 => 8,
-        10 => 8,
+        8 | 10 => 8,
         _ => 9,
     }
 }

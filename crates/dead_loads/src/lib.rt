@@ -1,11 +1,19 @@
 // The dead loads by angle: Table 6.1 of AS 1288, as specs/DeadLoads.antt has it.
 #![tactic(auto)]
 
-ghost use Rattle.std.specs.Prelude.{◌≡◌, ◌≤◌};
-ghost use Rattle.dead_loads.specs.DeadLoads.{maximum_at, minimum_at};
+ghost use Rattle.std.specs.Prelude.{◌≡◌};
+ghost use Rattle.dead_loads.specs.Internal.Steps.{dead_load_at};
 
-// Maximum and minimum for 6 mm glass at 0, 5, .. 75 degrees, in units of 0.01 kPa.
-const DEAD_LOADS: [[u32; 2]; 16] = [
+// The dead load of 6 mm glass, in units of 0.01 kPa.
+#[derive(Clone, Copy)]
+pub struct DeadLoad {
+    pub maximum: u32,
+    pub minimum: u32,
+}
+
+// Maximum and minimum at 0, 5, .. 75 degrees, in units of 0.01 kPa. A row is an array, so that it takes a line, as in the standard;
+// who reads it names what it holds.
+static DEAD_LOADS: [[u32; 2]; 16] = [
     [57, 13],
     [57, 13],
     [56, 13],
@@ -24,20 +32,18 @@ const DEAD_LOADS: [[u32; 2]; 16] = [
     [15, 3],
 ];
 
-// The maximum of the row at or next below an angle.
-pub fn max_row(angle: u32) -> u32
-    requires { angle ≤ 74 }
-    ensures { result ≡ maximum_at angle }
+// The dead load at an angle: the maximum of the row at or next below it, and the minimum of the row at or next above it. Above 75
+// degrees, which no file has, there is none above.
+#[tactic(auto, using(crate::proofs::DeadLoads::in_place))]
+pub fn dead_load_at(angle: u32) -> DeadLoad
+    ensures { result ≡ dead_load_at angle }
 {
-    let row = (angle / 5) as usize;
-    DEAD_LOADS[row][0]
-}
-
-// The minimum of the row at or next above an angle.
-pub fn min_row(angle: u32) -> u32
-    requires { angle ≤ 74 }
-    ensures { result ≡ minimum_at angle }
-{
-    let row = ((angle + 4) / 5) as usize;
-    DEAD_LOADS[row][1]
+    let below = (angle / 5).min(15) as usize;
+    let above = angle.div_ceil(5) as usize;
+    let [maximum, _] = DEAD_LOADS[below];
+    let minimum = match DEAD_LOADS.get(above) {
+        Some([_, minimum]) => *minimum,
+        None => 0,
+    };
+    DeadLoad { maximum, minimum }
 }

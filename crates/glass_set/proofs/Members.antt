@@ -52,7 +52,7 @@ within_minus r a b l h = go (eqb r 0) refl
         sym (within_of a b (λ g k is. not-false (has b g) (sym (rw is at (h g k)) ∙ empty g)))
     go false e =
         let g = count_trailing_zeros 64 r in
-        let found = first_has 64 r (eqb-false r 0 e) l in
+        let found = first_has r (eqb-false r 0 e) l in
         let only = apart (has a g) (has b g) (sym (h g found.0) ∙ found.1) in
         sym (within_not a b g found.0 only.0 only.1)
 

@@ -1,11 +1,13 @@
 // A set of glasses as a word of 64 bits: document 01, "The placing". Bit g is that of the glass at place g of the file. Built and
-// tested by shifts and masks; every promise is on each bit, as specs/Internal/Member.antt defines.
+// tested by shifts and masks; every promise is on each bit, as specs/Internal/Member.antt defines. The words have no type of their
+// own, since document 01 names them: rows of words, shifts and masks.
 #![tactic(auto)]
 
-ghost use Rattle.std.specs.Prelude.{◌≡◌, not, ◌&&◌, ◌||◌, ◌<◌, eqb};
+ghost use Rattle.std.specs.Prelude.{◌≡◌, not, ◌&&◌, ◌||◌, ◌<◌, eqb, MatchOption};
 ghost use Rattle.glass_set.specs.Internal.Member.{has, Members, Lowest, is_within};
 
 // A set with one glass more.
+#[tactic(auto, using(bits::proofs::Bits::has_or, bits::proofs::Bits::has_one))]
 pub fn with(set: u64, glass: usize) -> u64
     requires { glass < 64 }
     ensures { Members result (λ g. eqb g glass || has set g) }
@@ -14,6 +16,7 @@ pub fn with(set: u64, glass: usize) -> u64
 }
 
 // The glasses that are in both sets.
+#[tactic(auto, using(bits::proofs::Bits::has_and))]
 pub fn both(set: u64, other: u64) -> u64
     ensures { Members result (λ g. has set g && has other g) }
 {
@@ -21,6 +24,7 @@ pub fn both(set: u64, other: u64) -> u64
 }
 
 // The glasses of a set that are not in another.
+#[tactic(auto, using(bits::proofs::Bits::has_minus))]
 pub fn minus(set: u64, other: u64) -> u64
     ensures { Members result (λ g. has set g && not (has other g)) }
 {
@@ -28,6 +32,7 @@ pub fn minus(set: u64, other: u64) -> u64
 }
 
 // A set without a glass.
+#[tactic(auto, using(bits::proofs::Bits::has_minus, bits::proofs::Bits::has_one))]
 pub fn without(set: u64, glass: usize) -> u64
     requires { glass < 64 }
     ensures { Members result (λ g. has set g && not (eqb g glass)) }
@@ -36,6 +41,7 @@ pub fn without(set: u64, glass: usize) -> u64
 }
 
 // The first glass of a set that is not empty.
+#[tactic(auto, using(bits::proofs::Bits::first_has, bits::proofs::Bits::none_below))]
 pub fn first(set: u64) -> usize
     requires { set ≡ 0 → ⊥ }
     ensures { Lowest set result }
@@ -43,7 +49,15 @@ pub fn first(set: u64) -> usize
     u64::trailing_zeros(set) as usize
 }
 
+// The first glass of a set, if it has one.
+pub fn find_first(set: u64) -> Option<usize>
+    ensures { MatchOption result (set ≡ 0) (Lowest set) }
+{
+    if set == 0 { None } else { Some(first(set)) }
+}
+
 // Whether every glass of a set is in another.
+#[tactic(auto, using(crate::proofs::Members::within_minus))]
 pub fn is_within(set: u64, other: u64) -> bool
     ensures { result ≡ is_within set other }
 {

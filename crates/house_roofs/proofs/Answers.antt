@@ -5,18 +5,19 @@ use Prim.Native.Nat.{ℕ}
 use mathlib.Core.Path.{◌≡◌, refl, sym, ap, subst, ◌∙◌}
 use mathlib.Core.List.{List, map}
 use lib.ListN.{length, length-map}
-use Rattle.causes.specs.Answer.{gives}
+use Rattle.std.specs.Prelude.{Option, Some, None}
+use Rattle.causes.specs.Answer.{Answer, gives, refusal}
+use Rattle.causes.specs.declared.Cause.TheVariants.{NoPane, NoGlass}
+use Rattle.ids.specs.Lookup.{place_of}
 use Rattle.job_glass.specs.declared.Glass.{Glass}
 use Rattle.job_pane.specs.declared.Pane.{Pane}
 use Rattle.job_file.specs.File.{accepted}
-use Rattle.job_file.specs.Entries.{glass_ids_of, pane_ids_of, stocks_of}
+use Rattle.job_file.specs.Entries.{glass_at, pane_at, glass_ids_of, pane_ids_of, stocks_of}
 use Rattle.job_grammar.proofs.Grammar.{complete, sound}
 use Rattle.uniform_load.specs.AsPressures.{as_pressures}
 use Rattle.clauses.specs.VerdictAnswer.{verdict_answer}
-use Rattle.clauses.specs.Internal.Pair.{pair_of, pair_answer}
-use Rattle.clauses.specs.declared.question.PairPlace.{PairPlace}
-use Rattle.clauses.specs.declared.question.PairPlace.TheVariants.{Both, Unknown}
-use Rattle.clauses.proofs.Laws.{answer_pair}
+use Rattle.clauses.specs.Verdict.{verdict_of}
+use Rattle.clauses.specs.declared.judging.Verdict.{Verdict}
 use Rattle.row_placing.specs.Glazing.{Glazing}
 use Rattle.placing.specs.FileSchedule.{schedule_of}
 use Rattle.placing.specs.Promise.{Call, Promised}
@@ -28,17 +29,28 @@ module _ (glasses : List Glass) (panes : List Pane) where
   abbrev pressures : List Pane
   pressures = map as_pressures panes
 
-  same_pair : (pair : PairPlace) → pair_answer glasses pressures pair ≡ pair_answer glasses panes pair
-  same_pair (Unknown cause) = refl
-  same_pair (Both p g) = ap gives (verdict_same glasses panes p g)
+  -- The answer by the places of the two ids.
+  abbrev answer_at : List Pane → (p g : Option ℕ) → Answer Verdict
+  answer_at ps p g =
+      elim p [
+        | None ↦ refusal NoPane 0
+        | Some p ↦
+            elim g [
+              | None ↦ refusal NoGlass 0
+              | Some g ↦ gives (verdict_of (pane_at ps p) (glass_at glasses g))
+            ]
+      ]
+
+  same_at : (p g : Option ℕ) → answer_at pressures p g ≡ answer_at panes p g
+  same_at None g = refl
+  same_at (Some p) None = refl
+  same_at (Some p) (Some g) = ap gives (verdict_same glasses panes p g)
 
   same_answer :
       (pane glass : ℕ) → verdict_answer (accepted glasses pressures) pane glass ≡ verdict_answer (accepted glasses panes) pane glass
+  unfolding verdict_answer
   same_answer pane glass =
-      answer_pair glasses pressures pane glass
-      ∙ ap (λ ids. pair_answer glasses pressures (pair_of (glass_ids_of glasses) ids pane glass)) (ids_same panes)
-      ∙ same_pair (pair_of (glass_ids_of glasses) (pane_ids_of panes) pane glass)
-      ∙ sym (answer_pair glasses panes pane glass)
+      rw (verdict_answer, ids_same panes) (same_at (place_of pane (pane_ids_of panes)) (place_of glass (glass_ids_of glasses)))
 
 -- Two lists of panes, of which the same is to be placed.
 module _ (glasses : List Glass) (panes others : List Pane)

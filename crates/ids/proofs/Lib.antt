@@ -1,6 +1,5 @@
 -- Lists of ids.
 pub mod Members
 pub mod Distinct
--- The place of an id in a list, and sets of ids.
-pub mod Lookups
+-- Sets of ids.
 pub mod IdSets

@@ -23,7 +23,6 @@ use Rattle.job_glass.specs.Internal.Values.{GlassValues}
 use Rattle.job_pane.specs.Internal.Values.{PaneValues}
 use Rattle.job_glass.specs.declared.Glass.{Glass}
 use Rattle.job_pane.specs.declared.Pane.{Pane}
-use Rattle.basics.proofs.Tests.{clash}
 use Rattle.job_part.proofs.Lists.{every_at}
 use Rattle.job_part.proofs.Laws.{part_rules, ids_at}
 use Rattle.job_glass.proofs.Values.{allowed_glass_lem}
@@ -49,15 +48,15 @@ module _ (gs : List Glass) (ps : List Pane) (cause : Cause) (at : ℕ) where
       (a b : Bool) (o : Outcome) →
       (if a && b then o else refused cause at) ≡ accepted gs ps → (a ≡ true) × (b ≡ true) × (o ≡ accepted gs ps)
   both_pass true true o e = (refl, refl, e)
-  both_pass true false o e = clash (cc)
-  both_pass false b o e = clash (cc)
+  both_pass true false o e = cc
+  both_pass false b o e = cc
 
   both_fail :
       (a b : Bool) (o : Outcome) →
       (if a || b then refused cause at else o) ≡ accepted gs ps → (a ≡ false) × (b ≡ false) × (o ≡ accepted gs ps)
   both_fail false false o e = (refl, refl, e)
-  both_fail false true o e = clash (cc)
-  both_fail true b o e = clash (cc)
+  both_fail false true o e = cc
+  both_fail true b o e = cc
 
 module _ (file : List ℕ) (gs : List Glass) (ps : List Pane) where
   parts_were :
@@ -80,8 +79,8 @@ module _ (file : List ℕ) (gs : List Glass) (ps : List Pane) where
           ] ≡ accepted gs ps →
           (l ≡ whole gs) × (m ≡ whole ps)
       go (whole glasses) (whole panes) e = (cc, cc)
-      go (whole glasses) (stopped cause at) e = clash (cc)
-      go (stopped cause at) m e = clash (cc)
+      go (whole glasses) (stopped cause at) e = cc
+      go (stopped cause at) m e = cc
 
   pub accepted_was : outcome_of file ≡ accepted gs ps → Accepted file gs ps
   unfolding outcome_of
@@ -115,7 +114,7 @@ module _ (file : List ℕ) (gs : List Glass) (ps : List Pane) where
             glass_part = p.0;
             pane_part = p.1;
           }
-      go short long no_trailer q f = clash (cc)
+      go short long no_trailer q f = cc
 
   pub accepted_is : Accepted file gs ps → outcome_of file ≡ accepted gs ps
   unfolding outcome_of parts_outcome

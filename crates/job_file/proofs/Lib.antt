@@ -1,6 +1,7 @@
 -- The front page: what the layers above may cite.
 pub mod Laws
 -- What the code reads is what the definition gives.
+pub mod Digits
 pub mod Files
 -- What holds of accepted and of refused files, and of a job that was read.
 pub mod Accepted

@@ -10,7 +10,6 @@ use lib.Dec.{leb, ltb}
 use lib.ListN.{length, drop}
 use borrow.Author.Tests.{leb-true, ltb-false}
 use Rattle.std.specs.Prelude.{if◌then◌else◌}
-use Rattle.basics.proofs.Tests.{clash}
 use Rattle.causes.specs.Answer.{refuses}
 use Rattle.causes.specs.declared.Cause.{Cause}
 use Rattle.causes.specs.declared.Cause.TheVariants.{FileLength, NoTrailer, PartOffsets}
@@ -123,5 +122,5 @@ pub not_refused_with_7 : NotRefusedWith7
 not_refused_with_7 file offset = go (outcome_of file)
   where
     go : (o : Outcome) → check_answer o ≡ refuses 7 offset → ⊥
-    go (accepted glasses panes) e = clash (cc)
+    go (accepted glasses panes) e = cc
     go (refused cause at) e = no_number_7 cause (cc)

@@ -1,23 +1,17 @@
 -- Document 01, what the call `check` answers, the first section, last sentence, and "What each cause gives": demand 1. Of every file it
 -- is how many glasses and panes it has, or the first cause against it.
-use Rattle.std.specs.Prelude.{ℕ, length}
-use Rattle.causes.specs.Answer.{Answer, gives, refusal}
+use Rattle.std.specs.Prelude.{ℕ, length, Result}
+use Rattle.causes.specs.Answer.{Answer, gives, refusal, answer_of}
+use Rattle.causes.specs.declared.Refusal.{Refusal}
 use Rattle.job_file.specs.File.{Outcome, accepted, refused}
-use Rattle.job_file.specs.declared.Checked.{Checked}
-use Rattle.job_file.specs.declared.Checked.TheVariants.{Accepted, Refused}
-
--- How many glasses and how many panes a file has.
-pub record FileCounts : Type 0 where
-  pub glasses : ℕ
-  pub panes : ℕ
+use Rattle.job_file.specs.declared.FileCounts.{FileCounts}
 
 abbrev pub file_counts : (glasses panes : ℕ) → FileCounts
 file_counts glasses panes = record { glasses = glasses; panes = panes }
 
--- What each case of the code's answer says.
-abbrev pub checked_says : Checked → Answer FileCounts
-checked_says (Accepted glass_count pane_count) = gives (file_counts glass_count pane_count)
-checked_says (Refused cause offset) = refusal cause offset
+-- What the code's answer says.
+abbrev pub checked_says : Result FileCounts Refusal → Answer FileCounts
+checked_says = answer_of
 
 -- The answer that a file should have.
 abbrev pub check_answer : Outcome → Answer FileCounts

@@ -1,6 +1,6 @@
 -- A job as a value.
 pub mod Job
--- The job of two parts.
-pub mod Parts
+-- What makes its rules a fact about its lists alone.
+pub mod OneProof
 -- What reading the trailer promises.
 pub mod Steps

@@ -1,37 +1,36 @@
 // The reader of a job file: document 01, "The job file" and "What each cause gives".
 //
-// `check` says whether a file is accepted, and `read_job` gives its glasses and panes too. Both answer for every list of bytes, as
+// `check` says whether a file is accepted, and `read_job` gives its glasses and panes. Both answer for every list of bytes, as
 // specs/File.antt defines.
 #![tactic(auto)]
 
 mod file;
 mod job;
+mod parts;
 mod trailer;
 
 ghost use Rattle.std.specs.Prelude.{◌≡◌};
 ghost use Rattle.job_file.specs.File.{outcome_of};
 ghost use Rattle.job_file.specs.CheckAnswer.{checked_says, check_answer};
 
-use causes::Cause;
+use causes::Refusal;
 pub use file::read_job;
-pub use job::{Job, JobNumbers, numbers_of};
+pub use job::Job;
 
-// The answer to a check: how many glasses and panes the file has, or why and where it is refused.
-#[derive(Clone, Copy)]
-pub enum Checked {
-    Accepted {
-        glass_count: usize,
-        pane_count: usize,
-    },
-    Refused {
-        cause: Cause,
-        offset: usize,
-    },
+// How many glasses and how many panes a file has.
+#[derive(Clone, Copy, Debug, PartialEq, Eq)]
+pub struct FileCounts {
+    pub glasses: usize,
+    pub panes: usize,
 }
 
-// Whether a file is accepted.
-pub fn check(file: &[u8]) -> Checked
+// Whether a file is accepted, and how many glasses and panes it has; or why and where it is refused.
+pub fn check(file: &[u8]) -> Result<FileCounts, Refusal>
     ensures { checked_says result ≡ check_answer (outcome_of file.now) }
 {
-    read_job(file).checked
+    let job = read_job(file)?;
+    Ok(FileCounts {
+        glasses: job.glasses.len(),
+        panes: job.panes.len(),
+    })
 }

@@ -1,3 +1,3 @@
--- A glass from its numbers, and its allowed values.
-pub mod Fields
+-- The glass of a line, and its allowed values.
+pub mod Lines
 pub mod Values

@@ -1,13 +1,13 @@
 // The glass part of a job file: document 01, "The job file".
 #![tactic(auto)]
 
-mod glasses;
-
-pub use glasses::{NO_GLASS, read_glasses};
-use job_part::PartEnd;
+mod entry;
 
 // A sheet of glass in the rack: a line `G id kind thick w h two four stock`.
-#[derive(Clone, Copy)]
+//
+// Its numbers are plain: any number of a line may stand here until cause 5 has judged it, and public functions answer for any
+// glass. A narrower type would ask more of their callers.
+#[derive(Clone, Copy, Default)]
 pub struct Glass {
     pub id: u32,
     // laminated: 1 annealed, 2 heat-strengthened, 3 toughened; monolithic: 4 toughened
@@ -22,11 +22,4 @@ pub struct Glass {
     pub four: u32,
     // sheets
     pub stock: u32,
-}
-
-// The glasses of a part, at the front of an array.
-#[derive(Drop)]
-pub struct GlassPart {
-    pub end: PartEnd,
-    pub glasses: [Glass; 64],
 }

@@ -13,7 +13,6 @@ use lib.ListN.{length, get_or, drop, drop_of_length-le}
 use lib.Seq.{drop-cons}
 use borrow.Author.Tests.{eqb-true}
 use Rattle.std.specs.Prelude.{if◌then◌else◌}
-use Rattle.basics.proofs.Tests.{clash}
 use Rattle.job_line.specs.Bytes.{letter_g, letter_p, letter_q}
 use Rattle.job_glass.specs.GlassLine.{glass_form}
 use Rattle.job_pane.specs.StatedWind.{wind_of}
@@ -82,7 +81,7 @@ letter_of_wind letter first second known = go (eqb letter letter_q) (eqb letter 
         wind_letter (wind_of letter first second) ≡ letter
     go true p is_q is_p = rw is_q (sym (eqb-true letter letter_q is_q))
     go false true is_q is_p = rw is_q (sym (eqb-true letter letter_p is_p))
-    go false false is_q is_p = let none : takes_pane letter ≡ false = rw (is_p, is_q) in clash (cc)
+    go false false is_q is_p = let none : takes_pane letter ≡ false = rw (is_p, is_q) in cc
 
 numbers_of_wind : (letter first second : ℕ) → wind_numbers (wind_of letter first second) ≡ first ∷ second ∷ []
 numbers_of_wind letter first second = go (eqb letter letter_q)

@@ -16,7 +16,6 @@ use Rattle.job_line.specs.Bytes.{newline, space, next, behind, Found, found, not
 use Rattle.job_line.specs.Number.{is_digit, number}
 use Rattle.job_line.specs.Line.{numbers, ended, line}
 use Rattle.job_part.specs.Rules.{Every}
-use Rattle.basics.proofs.Tests.{clash}
 use Rattle.job_line.specs.WrittenNumber.{written_number, written_numbers}
 use Rattle.job_grammar.specs.Written.{written_line}
 use Rattle.job_grammar.proofs.Numbers.{written_number_lem, number_read}
@@ -99,8 +98,8 @@ numbers_read_lem (suc left) before bytes ns rest e =
               ∙ ap (λ l. written_number n ++ l) r.were
               ∙ sym (append_assoc (written_number n) (written_numbers r.more) rest));
         }
-    go read true nothing p q f = clash (cc)
-    go read false g p q f = clash (cc)
+    go read true nothing p q f = cc
+    go read false g p q f = cc
 
 ended_read :
     (count : ℕ) (bytes ns rest : List ℕ) → ended (numbers count [] bytes) ≡ found ns rest →
@@ -111,7 +110,7 @@ ended_read count bytes ns rest e = go (numbers count [] bytes) refl e
     go :
         (f : Found (List ℕ)) → numbers count [] bytes ≡ f → ended f ≡ found ns rest →
         (bytes ≡ written_numbers ns ++ (newline ∷ rest)) × (length ns ≡ count)
-    go nothing q f = clash (cc)
+    go nothing q f = cc
     go (found ms tail) q f = step (eqb (next tail) newline) refl f
       where
         step :
@@ -122,7 +121,7 @@ ended_read count bytes ns rest e = go (numbers count [] bytes) refl e
             let same : r.more ≡ ns = r.behind ∙ cc in
             let tail_is : tail ≡ newline ∷ rest = next_is newline tail (omega arith) p ∙ cc in
             (r.were ∙ rw (same, tail_is), rw same at r.count)
-        step false p g = clash (cc)
+        step false p g = cc
 
 -- A line that was read: its letter is one that is taken, and it was written with that letter and those numbers.
 pub record LineWas (takes : ℕ → Bool) (count : ℕ) (bytes ns rest : List ℕ) : Type 0 where
@@ -133,7 +132,7 @@ pub record LineWas (takes : ℕ → Bool) (count : ℕ) (bytes ns rest : List �
 -- A letter that is taken is the first of the bytes, where no byte 0 is taken.
 letter_is :
     (takes : ℕ → Bool) (bytes : List ℕ) → takes 0 ≡ false → takes (next bytes) ≡ true → bytes ≡ next bytes ∷ behind bytes
-letter_is takes [] none e = clash (cc)
+letter_is takes [] none e = cc
 letter_is takes (b ∷ bytes) none e = refl
 
 pub line_read :
@@ -157,4 +156,4 @@ line_read takes count bytes ns rest none = go (takes (next bytes)) refl
               ∙ ap (λ l. next bytes ∷ l) (r.0 ∙ sym (append_assoc (written_numbers ns) (newline ∷ []) rest));
           many = r.1;
         }
-    go false p f = clash (cc)
+    go false p f = cc

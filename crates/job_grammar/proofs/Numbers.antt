@@ -13,7 +13,6 @@ use borrow.Author.Tests.{leb-true, eqb-true, eqb-false, lt-ltb, le-ltb, le-leb, 
 use Rattle.std.specs.Prelude.{if◌then◌else◌}
 use Rattle.job_line.specs.Bytes.{next, found, nothing}
 use Rattle.job_line.specs.Number.{is_digit, digits, number}
-use Rattle.basics.proofs.Tests.{clash}
 use Rattle.job_line.specs.WrittenNumber.{written_digits, digit_count, written_number}
 use Rattle.job_grammar.proofs.Digits.{written_digits_lem, no_more_digits, digits_read}
 
@@ -90,7 +89,7 @@ written_number_lem (suc m) rest h e =
 
 pub number_read : (bytes : List ℕ) (n : ℕ) (rest : List ℕ) → number bytes ≡ found n rest → bytes ≡ written_number n ++ rest
 unfolding number written_number written_digits
-number_read [] n rest e = clash (cc)
+number_read [] n rest e = cc
 number_read (b ∷ bytes) n rest e = go (eqb b 48) (leb 48 b) (leb b 57) refl refl refl e
   where
     sized : (size : ℕ) → size ≤ 5 → n < 10 ^ size → 10 ^ size ≤ n * 10 → digit_count n ≡ size
@@ -115,5 +114,5 @@ number_read (b ∷ bytes) n rest e = go (eqb b 48) (leb 48 b) (leb b 57) refl re
         let first : 48 + (b - 48) % 10 ≡ b = omega arith in
         rw (sized r.size r.within (r.high (omega arith)) (r.low (omega arith)))
         (rw first at r.were)
-    go false true false o p q f = clash (cc)
-    go false false high o p q f = clash (cc)
+    go false true false o p q f = cc
+    go false false high o p q f = cc

@@ -13,7 +13,7 @@ use lib.ListN.{length, get_or, drop, drop_of_length-le}
 use lib.Seq.{drop-cons}
 use borrow.Author.Tests.{eqb-true, le-leb}
 use Rattle.std.specs.Prelude.{if◌then◌else◌}
-use Rattle.basics.proofs.Tests.{clash, both_true}
+use Rattle.std.proofs.Math.Bool.{and-eq-true_iff}
 use Rattle.job_line.specs.Bytes.{newline, space, letter_t}
 use Rattle.job_line.specs.Number.{is_digit}
 use Rattle.job_line.specs.WrittenNumber.{written_digits}
@@ -46,10 +46,10 @@ five_read :
     written_digits 5 (five_digits a b c d e) ++ rest ≡ a ∷ b ∷ c ∷ d ∷ e ∷ rest
 unfolding written_digits
 five_read a b c d e rest all =
-    let four = both_true (is_digit a && is_digit b && is_digit c && is_digit d) (is_digit e) all in
-    let three = both_true (is_digit a && is_digit b && is_digit c) (is_digit d) four.0 in
-    let two = both_true (is_digit a && is_digit b) (is_digit c) three.0 in
-    let one = both_true (is_digit a) (is_digit b) two.0 in
+    let four = (and-eq-true_iff (is_digit a && is_digit b && is_digit c && is_digit d) (is_digit e)).0 all in
+    let three = (and-eq-true_iff (is_digit a && is_digit b && is_digit c) (is_digit d)).0 four.0 in
+    let two = (and-eq-true_iff (is_digit a && is_digit b) (is_digit c)).0 three.0 in
+    let one = (and-eq-true_iff (is_digit a) (is_digit b)).0 two.0 in
     let by_tens :
     five_digits a b c d e
     ≡ ((((0 * 10 + (a - 48)) * 10 + (b - 48)) * 10 + (c - 48)) * 10 + (d - 48)) * 10 + (e - 48) = omega arith in
@@ -79,7 +79,7 @@ passed :
     (test : Bool) (x y glass pane : ℕ) → (if test then offsets x y else no_trailer) ≡ offsets glass pane →
     (test ≡ true) × (x ≡ glass) × (y ≡ pane)
 passed true x y glass pane e = (refl, cc, cc)
-passed false x y glass pane e = clash (cc)
+passed false x y glass pane e = cc
 
 pub trailer_read :
     (bytes : List ℕ) (glass pane : ℕ) → trailer bytes ≡ offsets glass pane → bytes ≡ written_trailer glass pane
@@ -93,12 +93,12 @@ trailer_read bytes glass pane e =
     let gap : Bool = letter && eqb (at 1) space in
     let gap' : Bool = gap && first && eqb (at 7) space in
     let test = passed (gap' && second && eqb (at 13) newline) _ _ glass pane e in
-    let t6 = both_true (gap' && second) (eqb (at 13) newline) test.0 in
-    let t5 = both_true gap' second t6.0 in
-    let t4 = both_true (gap && first) (eqb (at 7) space) t5.0 in
-    let t3 = both_true gap first t4.0 in
-    let t2 = both_true letter (eqb (at 1) space) t3.0 in
-    let t1 = both_true (eqb (length bytes) 14) (eqb (at 0) letter_t) t2.0 in
+    let t6 = (and-eq-true_iff (gap' && second) (eqb (at 13) newline)).0 test.0 in
+    let t5 = (and-eq-true_iff gap' second).0 t6.0 in
+    let t4 = (and-eq-true_iff (gap && first) (eqb (at 7) space)).0 t5.0 in
+    let t3 = (and-eq-true_iff gap first).0 t4.0 in
+    let t2 = (and-eq-true_iff letter (eqb (at 1) space)).0 t3.0 in
+    let t1 = (and-eq-true_iff (eqb (length bytes) 14) (eqb (at 0) letter_t)).0 t2.0 in
     by_position 14 0 bytes (eqb-true (length bytes) 14 t1.0)
     ∙ rw (
       eqb-true (at 0) letter_t t1.1,

@@ -5,20 +5,20 @@
 --     digits_none             none left: the value so far
 --     Begun                   what holds in the midst of digits: those from here on, behind the value so far, are what was to
 --                             be read, and k digits make less than 10 ^ k
---     begun_limit             so the value is below 100,000
+--     begun_limit             so where one may still come, the value is below 10,000
 --     begun_digit             one digit more
 --     begun_stop, begun_none  no digit next, or none left: the value so far is what was to be read
 use Prim.Native.Nat.{ℕ, zero, suc, ◌+◌, ◌-◌, ◌*◌, ◌^◌, ◌≤◌, ◌<◌}
 use mathlib.Core.Path.{◌≡◌, refl, sym, ◌∙◌}
-use mathlib.Core.Bool.{true, false, and-eq-true_iff}
+use mathlib.Core.Bool.{Bool, true, false, and-eq-true_iff}
 use mathlib.Core.List.{List}
 use native.Mathlib.Omega.{arith}
 use lib.Dec.{leb}
-use lib.ListN.{length, drop}
 use borrow.Author.Tests.{leb-true}
-use Rattle.job_line.specs.Bytes.{next, behind, Found, found}
+use Rattle.std.specs.Prelude.{if◌then◌else◌}
+use Rattle.job_line.specs.Bytes.{next, behind, Found, found, nothing}
 use Rattle.job_line.specs.Number.{is_digit, digits}
-use Rattle.job_line.proofs.Positions.{behind_drop, within}
+use Rattle.job_line.specs.Internal.Steps.{digit}
 
 pub digit_low : (b : ℕ) → is_digit b ≡ true → 48 ≤ b
 digit_low b e = leb-true 48 b ((and-eq-true_iff (leb 48 b) (leb b 57)).0 e).0
@@ -26,66 +26,75 @@ digit_low b e = leb-true 48 b ((and-eq-true_iff (leb 48 b) (leb b 57)).0 e).0
 pub digit_high : (b : ℕ) → is_digit b ≡ true → b ≤ 57
 digit_high b e = leb-true b 57 ((and-eq-true_iff (leb 48 b) (leb b 57)).0 e).1
 
-pub digits_more : (left v : ℕ) (bytes : List ℕ) → 0 < left → is_digit (next bytes) ≡ true →
-    digits left v bytes ≡ digits (left - 1) (v * 10 + (next bytes - 48)) (behind bytes)
+pub digits_more :
+    (left v : ℕ) (bytes : List ℕ) (d : ℕ) (rest : List ℕ) → 0 < left → found d rest ≡ digit bytes →
+    digits left v bytes ≡ digits (left - 1) (v * 10 + d) rest
 unfolding digits
-digits_more zero v bytes h e = absurd (omega arith)
-digits_more (suc left) v bytes h e =
-    let one_less : suc left - 1 ≡ left = omega arith in
-    rw (e, one_less)
+digits_more zero v bytes d rest h e = absurd (omega arith)
+digits_more (suc left) v bytes d rest h e = go (is_digit (next bytes)) e
+  where
+    one_less : suc left - 1 ≡ left
+    one_less = omega arith
 
-pub digits_stop : (left v : ℕ) (bytes : List ℕ) → is_digit (next bytes) ≡ false → digits left v bytes ≡ found v bytes
+    go :
+        (t : Bool) → found d rest ≡ (if t then found (next bytes - 48) (behind bytes) else nothing) →
+        (if t then digits left (v * 10 + (next bytes - 48)) (behind bytes) else found v bytes)
+        ≡ digits (suc left - 1) (v * 10 + d) rest
+    go true e =
+        let same : next bytes - 48 ≡ d = cc in
+        let after : behind bytes ≡ rest = cc in
+        rw (one_less, same, after)
+    go false e = cc
+
+pub digits_stop : (left v : ℕ) (bytes : List ℕ) → nothing ≡ digit bytes → digits left v bytes ≡ found v bytes
 unfolding digits
 digits_stop zero v bytes e = refl
-digits_stop (suc left) v bytes e = rw e
+digits_stop (suc left) v bytes e = go (is_digit (next bytes)) e
+  where
+    go :
+        (t : Bool) → nothing ≡ (if t then found (next bytes - 48) (behind bytes) else nothing) →
+        (if t then digits left (v * 10 + (next bytes - 48)) (behind bytes) else found v bytes) ≡ found v bytes
+    go true e = cc
+    go false e = refl
 
 pub digits_none : (left v : ℕ) (bytes : List ℕ) → left ≤ 0 → digits left v bytes ≡ found v bytes
 unfolding digits
 digits_none zero v bytes h = refl
 digits_none (suc left) v bytes h = absurd (omega arith)
 
-limit : (left v : ℕ) → left ≤ 5 → v < 10 ^ (5 - left) → v < 100000
-limit zero v h l = omega arith
-limit (suc zero) v h l = omega arith
-limit (suc (suc zero)) v h l = omega arith
-limit (suc (suc (suc zero))) v h l = omega arith
-limit (suc (suc (suc (suc zero)))) v h l = omega arith
-limit (suc (suc (suc (suc (suc zero))))) v h l = omega arith
-limit (suc (suc (suc (suc (suc (suc left)))))) v h l = absurd (omega arith)
+limit : (read v : ℕ) → read < 4 → v < 10 ^ (read + 1) → v < 10000
+limit zero v l s = omega arith
+limit (suc zero) v l s = omega arith
+limit (suc (suc zero)) v l s = omega arith
+limit (suc (suc (suc zero))) v l s = omega arith
+limit (suc (suc (suc (suc read)))) v l s = absurd (omega arith)
 
-tenfold : (left v d : ℕ) → 0 < left → left ≤ 5 → v < 10 ^ (5 - left) → d ≤ 9 → v * 10 + d < 10 ^ (5 - (left - 1))
-tenfold zero v d p h l e = absurd (omega arith)
-tenfold (suc zero) v d p h l e = omega arith
-tenfold (suc (suc zero)) v d p h l e = omega arith
-tenfold (suc (suc (suc zero))) v d p h l e = omega arith
-tenfold (suc (suc (suc (suc zero)))) v d p h l e = omega arith
-tenfold (suc (suc (suc (suc (suc zero))))) v d p h l e = omega arith
-tenfold (suc (suc (suc (suc (suc (suc left)))))) v d p h l e = absurd (omega arith)
+tenfold : (read v d : ℕ) → read < 4 → v < 10 ^ (read + 1) → d ≤ 9 → v * 10 + d < 10 ^ (read + 1 + 1)
+tenfold zero v d l s h = omega arith
+tenfold (suc zero) v d l s h = omega arith
+tenfold (suc (suc zero)) v d l s h = omega arith
+tenfold (suc (suc (suc zero))) v d l s h = omega arith
+tenfold (suc (suc (suc (suc read)))) v d l s h = absurd (omega arith)
 
-pub record Begun (s : List ℕ) (asked : Found ℕ) (value at left : ℕ) : Type 0 where
-  pub rest : digits left value (drop at s) ≡ asked
-  pub few : left ≤ 5
-  pub small : value < 10 ^ (5 - left)
-  pub inside : at ≤ length s
+pub record Begun (asked : Found ℕ) (bytes : List ℕ) (value read : ℕ) : Type 0 where
+  pub rest : digits (4 - read) value bytes ≡ asked
+  pub small : value < 10 ^ (read + 1)
 
-module _ (s : List ℕ) (asked : Found ℕ) (value at left : ℕ) (begun : Begun s asked value at left) where
-  pub begun_limit : value < 100000
-  begun_limit = limit left value begun.few begun.small
+module _ (asked : Found ℕ) (bytes : List ℕ) (value read : ℕ) (begun : Begun asked bytes value read) where
+  pub begun_limit : read < 4 → value < 10000
+  begun_limit few = limit read value few begun.small
 
-  pub begun_digit : (b d : ℕ) → 0 < left → b ≡ next (drop at s) → is_digit b ≡ true → d ≡ b - 48 → Begun s asked (value * 10 + d) (at + 1) (left - 1)
-  begun_digit b d some is digit worth =
-      let low : 48 ≤ b = digit_low b digit in
-      let high : b ≤ 57 = digit_high b digit in
-      let here : at < length s = within s at (rw (← is) (omega arith)) in
+  pub begun_digit :
+      (d : ℕ) (rest : List ℕ) → read < 4 → found d rest ≡ digit bytes → d ≤ 9 → Begun asked rest (value * 10 + d) (read + 1)
+  begun_digit d rest few one small =
+      let one_less : 4 - read - 1 ≡ 4 - (read + 1) = omega arith in
       record {
-        rest = rw (worth, is, ← behind_drop s at) (sym (digits_more left value (drop at s) some (rw (← is) digit)) ∙ begun.rest);
-        few = omega arith;
-        small = tenfold left value d some begun.few begun.small (omega arith);
-        inside = omega arith;
+        rest = sym (rw one_less at (digits_more (4 - read) value bytes d rest (omega arith) one)) ∙ begun.rest;
+        small = tenfold read value d few begun.small small;
       }
 
-  pub begun_stop : is_digit (next (drop at s)) ≡ false → (asked ≡ found value (drop at s)) × (at ≤ length s)
-  begun_stop other = (sym begun.rest ∙ digits_stop left value (drop at s) other, begun.inside)
+  pub begun_stop : nothing ≡ digit bytes → found value bytes ≡ asked
+  begun_stop other = sym (digits_stop (4 - read) value bytes other) ∙ begun.rest
 
-  pub begun_none : left ≤ 0 → (asked ≡ found value (drop at s)) × (at ≤ length s)
-  begun_none none = (sym begun.rest ∙ digits_none left value (drop at s) none, begun.inside)
+  pub begun_none : 4 ≤ read → found value bytes ≡ asked
+  begun_none all = sym (digits_none (4 - read) value bytes (omega arith)) ∙ begun.rest

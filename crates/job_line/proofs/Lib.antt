@@ -1,5 +1,5 @@
--- Bytes by their positions, digits, numbers, the numbers of a line.
-pub mod Positions
+-- Digits, numbers, and the numbers of a line.
 pub mod Digits
 pub mod Numbers
-pub mod Scan
+pub mod Lines
+pub mod Shorter

@@ -1,2 +1,2 @@
--- What reading at a position promises.
+-- What reading at the front of some bytes answers.
 pub mod Steps

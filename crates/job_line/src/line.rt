@@ -1,45 +1,32 @@
 // A line of either part: specs/Line.antt.
-ghost use Rattle.std.specs.Prelude.{◌≡◌, ◌≤◌, length};
-ghost use Rattle.basics.specs.Lent.{lent};
-ghost use Rattle.job_line.specs.Internal.Steps.{LineRead};
+ghost use Rattle.std.specs.Prelude.{◌≡◌, ◌∷◌, ◌≢◌, ℕ, List, MatchOption};
+ghost use Rattle.job_line.specs.Line.{line, only};
+ghost use Rattle.job_line.specs.Internal.Steps.{as_found};
 
-use crate::number::{byte_at, read_number};
-use crate::{LineEnd, NumberAt};
+use crate::number::read_number;
 
-// The line of `letter` and `count` numbers at a position. Its numbers are written to the front of an array; where there is no
-// line, those before its first fault. Later entries stay as they are.
-pub fn read_line(
-    s: &[u8],
-    start: usize,
-    letter: u8,
-    count: usize,
-    numbers: &mut [u32; 9],
-) -> LineEnd
-    requires { (1 ≤ letter) × (count ≤ 9) × (length numbers.old ≡ 9) }
-    ensures { LineRead s.now start letter count (lent numbers.old numbers.new) result }
+// The line of `letter` and N numbers at the front of some bytes: its numbers, and the bytes behind its newline.
+#[tactic(auto, using(crate::proofs::Lines::by_parts))]
+pub fn read_line<const N: usize>(bytes: &[u8], letter: u8) -> Option<([u32; N], &[u8])>
+    ensures { as_found result ≡ line (only letter) N bytes.now }
 {
-    if byte_at(s, start) != letter {
-        return LineEnd::NotALine;
+    let mut rest = behind_byte(bytes, letter)?;
+    let mut numbers = [0; N];
+    for number in &mut numbers {
+        let (value, behind) = read_number(behind_byte(rest, b' ')?)?;
+        *number = value;
+        rest = behind;
     }
-    let mut at = start + 1;
-    let mut n = 0;
-    while n < count {
-        if byte_at(s, at) != b' ' {
-            return LineEnd::NotALine;
-        }
-        match read_number(s, at + 1) {
-            NumberAt::Missing => {
-                return LineEnd::NotALine;
-            }
-            NumberAt::Value(value, next) => {
-                numbers[n] = value;
-                at = next;
-                n += 1;
-            }
-        }
+    let rest = behind_byte(rest, b'\n')?;
+    Some((numbers, rest))
+}
+
+// The bytes behind a byte, where it comes next.
+fn behind_byte(bytes: &[u8], byte: u8) -> Option<&[u8]>
+    ensures { MatchOption result ((rest : List ℕ) → bytes.now ≢ byte ∷ rest) (λ rest. bytes.now ≡ byte ∷ rest.now) }
+{
+    match bytes.split_first() {
+        Some((first, rest)) if *first == byte => Some(rest),
+        _ => None,
     }
-    if byte_at(s, at) != b'\n' {
-        return LineEnd::NotALine;
-    }
-    LineEnd::Next(at + 1)
 }

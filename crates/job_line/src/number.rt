@@ -1,63 +1,44 @@
-// Numbers and the bytes that they are made of: specs/Number.antt.
-ghost use Rattle.std.specs.Prelude.{◌≡◌, true, ◌-◌, ◌^◌, ◌<◌, ◌≤◌, length, drop};
-ghost use Rattle.job_line.specs.Bytes.{next};
-ghost use Rattle.job_line.specs.Number.{is_digit, digits, number};
-ghost use Rattle.job_line.specs.Internal.Steps.{NumberRead};
+// Numbers: specs/Number.antt.
+ghost use Rattle.std.specs.Prelude.{◌≡◌, ◌≤◌, IfSome};
+ghost use Rattle.job_line.specs.Bytes.{found};
+ghost use Rattle.job_line.specs.Number.{digits, number};
+ghost use Rattle.job_line.specs.Internal.Steps.{as_found, digit};
 
-use crate::NumberAt;
-
-// The number at a position.
-pub(crate) fn read_number(s: &[u8], at: usize) -> NumberAt
-    ensures { NumberRead s.now (number (drop at s.now)) result }
+// The number at the front of some bytes, and the bytes behind it.
+#[tactic(auto, using(crate::proofs::Numbers::by_digit))]
+pub(crate) fn read_number(bytes: &[u8]) -> Option<(u32, &[u8])>
+    ensures { as_found result ≡ number bytes.now }
 {
-    let first = byte_at(s, at);
-    if first == b'0' {
-        return NumberAt::Value(0, at + 1);
+    match read_digit(bytes)? {
+        (0, rest) => Some((0, rest)),
+        (first, rest) => Some(read_digits(first, rest)),
     }
-    if is_digit(first) {
-        let value = digit_value(first);
-        return read_digits(s, at + 1, value, 4);
+}
+
+// The number that a digit and at most four more make.
+fn read_digits(first: u32, bytes: &[u8]) -> (u32, &[u8])
+    requires { first ≤ 9 }
+    ensures { found result.0 result.1.now ≡ digits 4 first bytes.now }
+{
+    let mut value = first;
+    let mut rest = bytes;
+    for _ in 0..4usize {
+        let Some((digit, behind)) = read_digit(rest) else {
+            break;
+        };
+        value = value * 10 + digit;
+        rest = behind;
     }
-    NumberAt::Missing
+    (value, rest)
 }
 
-// The digits at a position, at most `most` of them, behind 5 - most digits that make `begun`.
-fn read_digits(s: &[u8], start: usize, begun: u32, most: usize) -> NumberAt
-    requires { (most ≤ 5) × (begun < 10 ^ (5 - most)) × (start ≤ length s.now) }
-    ensures { NumberRead s.now (digits most begun (drop start s.now)) result }
+// The digit at the front of some bytes.
+fn read_digit(bytes: &[u8]) -> Option<(u32, &[u8])>
+    ensures value { as_found result ≡ digit bytes.now }
+    ensures small { IfSome result (λ r. r.0 ≤ 9) }
 {
-    let mut value = begun;
-    let mut at = start;
-    let mut left = most;
-    while 0 < left {
-        let b = byte_at(s, at);
-        if is_digit(b) {
-            value = value * 10 + digit_value(b);
-            at += 1;
-            left -= 1;
-        } else {
-            return NumberAt::Value(value, at);
-        }
+    match bytes.split_first() {
+        Some((byte, rest)) if byte.is_ascii_digit() => Some(((*byte - b'0') as u32, rest)),
+        _ => None,
     }
-    NumberAt::Value(value, at)
-}
-
-// The byte at a position; 0 past the end.
-pub(crate) fn byte_at(s: &[u8], at: usize) -> u8
-    ensures { result ≡ next (drop at s.now) }
-{
-    if at < s.len() { s[at] } else { 0 }
-}
-
-fn is_digit(b: u8) -> bool
-    ensures { result ≡ is_digit b }
-{
-    (b'0' <= b) & (b <= b'9')
-}
-
-fn digit_value(b: u8) -> u32
-    requires { is_digit b ≡ true }
-    ensures { result ≡ b - 48 }
-{
-    (b - b'0') as u32
 }

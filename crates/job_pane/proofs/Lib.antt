@@ -1,7 +1,5 @@
--- A pane from its numbers, and its allowed values.
-pub mod Fields
-pub mod Values
--- A line of either letter.
+-- The pane of a line, and its allowed values.
 pub mod Lines
+pub mod Values
 -- Any sides are allowed.
 pub mod Sides

@@ -1,7 +1,4 @@
 -- A pane whose numbers pass the test has them within their bounds.
---     allowed_id          its id
---     allowed_pane_lem    all of them
-use Prim.Native.Nat.{◌≤◌}
 use native.Mathlib.Omega.{arith}
 use lib.Dec.{T, eqb, eqb→eq}
 use Rattle.basics.proofs.Tests.{and_iff, leb_iff, one_of}
@@ -11,9 +8,6 @@ use Rattle.job_pane.specs.Internal.Values.{WindValues, PaneValues}
 use Rattle.job_pane.specs.declared.Pane.{Pane}
 use Rattle.job_pane.specs.declared.Wind.{Wind}
 use Rattle.job_pane.specs.declared.Wind.TheVariants.{ByPressure, ByClass}
-
-pub allowed_id : (p : Pane) → T (allowed_pane p) → p.id ≤ 9999
-allowed_id p h = let k = simp (and_iff, leb_iff) at h in omega arith
 
 allowed_wind_lem : (wind : Wind) → T (allowed_wind wind) → WindValues wind
 allowed_wind_lem (ByPressure down up) h = simp (and_iff, leb_iff) at h

@@ -1,4 +1,4 @@
 -- What the layers above may count on.
 pub mod Values
--- What reading a line promises.
-pub mod Steps
+-- What reading a line of one letter promises.
+pub mod Letters

@@ -1,11 +1,9 @@
 // The pane part of a job file: document 01, "The job file", and document 02, 2026-03.
 #![tactic(auto)]
 
-mod panes;
+mod entry;
 mod winds;
 
-use job_part::PartEnd;
-pub use panes::{NO_PANE, read_panes};
 pub use winds::is_allowed_wind;
 
 // The wind on a pane, as its line states it.
@@ -18,7 +16,10 @@ pub enum Wind {
 }
 
 // A pane of the roof: a line `P id edges angle awning top w h down up`, or `Q id edges angle awning top w h class zone`.
-#[derive(Clone, Copy)]
+//
+// Its numbers and its wind's are plain: any number of a line may stand here until cause 5 has judged it, and public functions
+// answer for any pane. A narrower type would ask more of their callers.
+#[derive(Clone, Copy, Default)]
 pub struct Pane {
     pub id: u32,
     // supported edges, 2 or 4
@@ -33,11 +34,4 @@ pub struct Pane {
     pub w: u32,
     pub h: u32,
     pub wind: Wind,
-}
-
-// The panes of a part, at the front of an array.
-#[derive(Drop)]
-pub struct PanePart {
-    pub end: PartEnd,
-    pub panes: [Pane; 256],
 }

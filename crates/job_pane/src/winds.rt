@@ -1,8 +1,19 @@
 // The wind that a pane line states: specs/StatedWind.antt.
 ghost use Rattle.std.specs.Prelude.{◌≡◌};
 ghost use Rattle.job_pane.specs.StatedWind.{wind_of, allowed_wind};
+ghost use Rattle.job_pane.specs.declared.Wind.TheVariants.{ByPressure};
 
 use crate::Wind;
+use job_part::is_between;
+
+// The wind of a pane of zeros.
+impl Default for Wind {
+    ghost is_default = { λ wind. wind ≡ ByPressure 0 0 };
+
+    fn default() -> Wind {
+        Wind::ByPressure { down: 0, up: 0 }
+    }
+}
 
 // What the last two numbers of a pane line state, by its letter.
 pub(crate) fn wind_of(letter: u8, first: u32, second: u32) -> Wind
@@ -27,8 +38,6 @@ pub fn is_allowed_wind(wind: Wind) -> bool
 {
     match wind {
         Wind::ByPressure { down, up } => (down <= 1000) & (up <= 1000),
-        Wind::ByClass { class, zone } => {
-            ((1 <= class) & (class <= 10)) & ((1 <= zone) & (zone <= 2))
-        }
+        Wind::ByClass { class, zone } => is_between(1, 10, class) & is_between(1, 2, zone),
     }
 }

@@ -10,7 +10,6 @@ use mathlib.Core.Bool.{Bool, true, false, not}
 use mathlib.Core.List.{List, [], ◌∷◌, ◌++◌, map}
 use lib.Dec.{T}
 use lib.ListN.{length}
-use Rattle.basics.proofs.Tests.{clash}
 use Rattle.causes.specs.declared.Cause.TheVariants.{LineForm, NumberValue, RepeatedId}
 use Rattle.std.specs.Prelude.{if◌then◌else◌}
 use Rattle.job_line.specs.Bytes.{next, Found, found, nothing}
@@ -32,8 +31,8 @@ module _ {A : Type 0} (form : Form A) where
       (if not a then faulty NumberValue else if m then faulty RepeatedId else taken x rest) ≡ taken y rest' →
       T a × T (not m) × (x ≡ y) × (rest ≡ rest')
   gates true false x y rest rest' e = (tt, tt, cc, cc)
-  gates false m x y rest rest' e = clash (cc)
-  gates true true x y rest rest' e = clash (cc)
+  gates false m x y rest rest' e = cc
+  gates true true x y rest rest' e = cc
 
   pub taken_was :
       (earlier : List A) (bytes : List ℕ) (x : A) (rest : List ℕ) →
@@ -58,7 +57,7 @@ module _ {A : Type 0} (form : Form A) where
             allowed = rw g.2 at g.0;
             new = rw g.2 at g.1;
           }
-      go nothing q e = clash (cc)
+      go nothing q e = cc
 
   passes :
       (a m : Bool) (x : A) (rest : List ℕ) →
@@ -98,7 +97,7 @@ module _ {A : Type 0} (form : Form A) where
           (last : ℕ) × P last xs []
       unfolding lines
       keep zero earlier [] xs e p = kept zero earlier xs e p
-      keep zero earlier (b ∷ bytes) xs e p = clash (cc)
+      keep zero earlier (b ∷ bytes) xs e p = cc
       keep (suc left) earlier [] xs e p = kept (suc left) earlier xs e p
       keep (suc left) earlier (b ∷ bytes) xs e p =
           go (λ x rest. keep left (earlier ++ (x ∷ [])) rest xs) (judged form (map form.id earlier) (b ∷ bytes)) refl e
@@ -115,4 +114,4 @@ module _ {A : Type 0} (form : Form A) where
               ] ≡ whole xs →
               (last : ℕ) × P last xs []
           go next (taken x rest) q f = next x rest f (step left earlier b bytes x rest p (taken_was earlier (b ∷ bytes) x rest q))
-          go next (faulty cause) q f = clash (cc)
+          go next (faulty cause) q f = cc

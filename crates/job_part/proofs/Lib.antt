@@ -1,3 +1,5 @@
+-- The place of an id among the ids of entries.
+pub mod Places
 -- How a line is judged, and the lines of a part one after the other.
 pub mod Judging
 pub mod Parts

@@ -1,8 +1,7 @@
 -- The lines of a part, one after the other, for either form.
 --     Reads        what the definitions give of the bytes from here on: how the part ends, and the entries that are taken
 --     lines_end, lines_many, lines_faulty, lines_taken   that, by what comes next
---     Progress     the rest of the part is read from `at` on, behind n entries that were taken and stand in the array, whose
---                  other entries are blank; the set of ids has the entries' ids
+--     Progress     the rest of the part is read from here on, behind entries that were taken; the set of ids has theirs
 --     progress_begin, progress_taken                     where reading begins, and one line more
 --     progress_many, progress_faulty, progress_end       how it ends
 use Prim.Native.Nat.{ℕ, zero, suc, ◌+◌, ◌-◌, ◌≤◌, ◌<◌}
@@ -10,15 +9,18 @@ use mathlib.Core.Path.{◌≡◌, refl, ap, sym, ◌∙◌}
 use mathlib.Core.Bool.{false}
 use mathlib.Core.List.{List, [], ◌∷◌, ◌++◌, map, map-append}
 use native.Mathlib.Omega.{arith}
-use lib.ListN.{length, drop, set, replicate, length-append, length-drop, length-replicate, drop_of_length-le}
-use Rattle.basics.specs.Internal.Arrays.{padded}
-use Rattle.basics.proofs.Lent.{written_next, written_padded}
+use lib.Dec.{T}
+use lib.ListN.{length, length-append}
+use Rattle.std.specs.Prelude.{Ok, Err}
 use Rattle.causes.specs.declared.Cause.{Cause}
 use Rattle.causes.specs.declared.Cause.TheVariants.{TooManyLines}
-use Rattle.ids.specs.Internal.IdSets.{IdSet}
+use Rattle.causes.specs.declared.Refusal.{Refusal}
+use Rattle.job_line.proofs.Shorter.{line_shorter}
+use Rattle.ids.specs.declared.sets.IdSet.{IdSet}
+use Rattle.ids.specs.Internal.IdSets.{SetOf}
 use Rattle.job_part.specs.Part.{Form, taken, faulty, judged, Lines, whole, stopped, is_empty, lines, part_lines}
-use Rattle.job_part.specs.Internal.Arrays.{taken_lines, taken_part, end_of, PartRead}
-use Rattle.job_part.specs.declared.PartEnd.TheVariants.{Whole, Stopped}
+use Rattle.job_part.specs.Internal.Entries.{taken_lines, taken_part, end_of, PartRead}
+use Rattle.job_part.proofs.Kept.{taken_was}
 
 module _ {A : Type 0} (form : Form A) (end : ℕ) where
   abbrev pub Reads : (left : ℕ) (earlier : List A) (bytes : List ℕ) (d : Lines A) (xs : List A) → Type 0
@@ -50,110 +52,92 @@ module _ {A : Type 0} (form : Form A) (end : ℕ) where
     unfolding lines taken_lines
     lines_taken left x rest e = (rw (lines, begins, e), rw (taken_lines, begins, e))
 
-pub record Progress {A : Type 0} (form : Form A) (blank : A) (end : ℕ) (part : List ℕ) (xs : List A) (seen : List ℕ) (n at : ℕ)
-    : Type 0 where
-  -- the entries that were taken
-  pub front : List A
-  pub long : length front ≡ n
-  pub array : xs ≡ padded form.most blank front
-  pub rest : Reads form end (form.most - n) front (drop at part) (part_lines form end part) (taken_part form part)
-  pub few : n ≤ form.most
-  pub ids : IdSet seen (map form.id front)
-  pub inside : at ≤ length part
+module _ {A : Type 0} (form : Form A) (end : ℕ) (part : List ℕ) where
+  pub record Progress (xs : List A) (seen : IdSet) (bytes : List ℕ) : Type 0 where
+    pub rest : Reads form end (form.most - length xs) xs bytes (part_lines form end part) (taken_part form part)
+    pub few : length xs ≤ form.most
+    pub ids : SetOf seen (map form.id xs)
+    pub inside : length bytes ≤ length part
 
-padded_next :
-    {A : Type 0} (size : ℕ) (blank : A) (front : List A) (x : A) → length front < size →
-    set (padded size blank front) (length front) x ≡ padded size blank (front ++ (x ∷ []))
-padded_next size blank front x room =
-    rw (← written_padded front size blank, ← written_padded (front ++ (x ∷ [])) size blank)
-    (written_next front (replicate size blank) x (rw length-replicate room))
-
-module _ {A : Type 0} (form : Form A) (blank : A) (part : List ℕ) where
-  pub progress_begin :
-      (end : ℕ) (xs : List A) (seen : List ℕ) → xs ≡ replicate form.most blank → IdSet seen [] →
-      Progress form blank end part xs seen 0 0
+  pub progress_begin : (seen : IdSet) → SetOf seen [] → Progress [] seen part
   unfolding part_lines taken_part
-  progress_begin end xs seen empty none =
+  progress_begin seen none =
       let all : form.most - 0 ≡ form.most = omega arith in
       record {
-        front = [];
-        long = refl;
-        array = rw all empty;
         rest = (rw all, rw all);
         few = omega arith;
         ids = none;
         inside = omega arith;
       }
 
-  module _ (offset : ℕ) (xs : List A) (seen : List ℕ) (n at : ℕ)
-      (progress : Progress form blank (offset + length part) part xs seen n at) where
-    -- no line more is taken: the array has those of the part
-    ended :
-        (d : Lines A) → Reads form (offset + length part) (form.most - n) progress.front (drop at part) d progress.front →
-        PartRead form blank (offset + length part) part xs (end_of d)
+  module _ (xs : List A) (seen : IdSet) (bytes : List ℕ) (progress : Progress xs seen bytes) where
+    -- no line more is taken: the entries are those of the part
+    ended : (d : Lines A) → Reads form end (form.most - length xs) xs bytes d xs → PartRead form end part xs (end_of d)
     ended d last = record {
+      entries_are = sym last.1 ∙ progress.rest.1;
       end_is = ap end_of (sym last.0 ∙ progress.rest.0);
-      array_is = progress.array ∙ ap (padded form.most blank) (sym last.1 ∙ progress.rest.1);
     }
 
-    pub progress_end : length part ≤ at → PartRead form blank (offset + length part) part xs (Whole n)
-    progress_end all =
-        let none : drop at part ≡ [] = drop_of_length-le part {i = at} all in
-        rw (← progress.long)
-        (ended (whole progress.front) (rw none (lines_end form (offset + length part) (form.most - n) progress.front)))
-
-    -- where a byte is left a line begins, and its offset in the file
-    begins : at < length part → is_empty (drop at part) ≡ false
-    begins more = go (drop at part) (simp length-drop (omega arith))
+    pub progress_end : length bytes ≡ 0 → PartRead form end part xs (Ok tt)
+    progress_end none = go bytes none (λ (e : bytes ≡ []). ended (whole xs) (rw e (lines_end form end (form.most - length xs) xs)))
       where
-        go : (bytes : List ℕ) → 0 < length bytes → is_empty bytes ≡ false
-        go [] some = absurd (omega arith)
-        go (b ∷ bytes) some = refl
+        go : (rest : List ℕ) → length rest ≡ 0 → (rest ≡ [] → PartRead form end part xs (Ok tt)) → PartRead form end part xs (Ok tt)
+        go [] none f = f refl
+        go (b ∷ rest) none f = absurd (omega arith)
 
-    offset_is : at < length part → offset + length part - length (drop at part) ≡ offset + at
-    offset_is more = simp length-drop (omega arith)
+    -- where a byte is left a line begins
+    begins : 0 < length bytes → is_empty bytes ≡ false
+    begins some = go bytes some
+      where
+        go : (rest : List ℕ) → 0 < length rest → is_empty rest ≡ false
+        go [] some = absurd (omega arith)
+        go (b ∷ rest) some = refl
 
     pub progress_many :
-        at < length part → n ≡ form.most → PartRead form blank (offset + length part) part xs (Stopped TooManyLines (offset + at))
+        0 < length bytes → length xs ≡ form.most → PartRead form end part xs (Err (record { cause = TooManyLines; offset = end - length bytes }))
     progress_many more full =
-        let none : form.most - n ≡ 0 = omega arith in
-        ended (stopped TooManyLines (offset + at))
-        (rw (none, ← offset_is more)
-        (lines_many form (offset + length part) progress.front (drop at part) (begins more)))
+        let none : form.most - length xs ≡ 0 = omega arith in
+        ended (stopped TooManyLines (end - length bytes)) (rw none (lines_many form end xs bytes (begins more)))
 
-    one_left : n < form.most → form.most - n ≡ suc (form.most - (n + 1))
+    one_left : length xs < form.most → form.most - length xs ≡ suc (form.most - (length xs + 1))
     one_left more = omega arith
 
     pub progress_faulty :
-        (cause : Cause) →
-        at < length part →
-        n < form.most →
-        judged form (map form.id progress.front) (drop at part) ≡ faulty cause →
-        PartRead form blank (offset + length part) part xs (Stopped cause (offset + at))
-    progress_faulty cause more room fault =
-        ended (stopped cause (offset + at))
-        (rw (one_left room, ← offset_is more)
-        (lines_faulty form (offset + length part) progress.front (drop at part) (begins more) (form.most - (n + 1)) cause fault))
+        (refusal : Refusal) →
+        0 < length bytes →
+        length xs < form.most →
+        faulty refusal.cause ≡ judged form (map form.id xs) bytes →
+        refusal.offset ≡ end - length bytes →
+        PartRead form end part xs (Err refusal)
+    progress_faulty refusal more room fault at =
+        ended (stopped refusal.cause refusal.offset)
+        (rw (one_left room, at) (lines_faulty form end xs bytes (begins more) (form.most - (length xs + 1)) refusal.cause (sym fault)))
 
     pub progress_taken :
-        (x : A) (to : ℕ) (marked : List ℕ) →
-        at < length part →
-        n < form.most →
-        judged form (map form.id progress.front) (drop at part) ≡ taken x (drop to part) →
-        to ≤ length part →
-        IdSet marked (map form.id progress.front ++ (form.id x ∷ [])) →
-        Progress form blank (offset + length part) part (set xs n x) marked (n + 1) to
-    progress_taken x to marked more room line inside ids =
-        let front = progress.front in
-        let left : ℕ = form.most - (n + 1) in
-        let next = lines_taken form (offset + length part) front (drop at part) (begins more) left x (drop to part) line in
-        let rest = rw (one_left room) at progress.rest in
+        (x : A) (rest : List ℕ) (longer : List A) (marked : IdSet) →
+        0 < length bytes →
+        length xs < form.most →
+        taken x rest ≡ judged form (map form.id xs) bytes →
+        longer ≡ xs ++ (x ∷ []) →
+        SetOf marked (map form.id xs ++ (form.id x ∷ [])) →
+        Progress longer marked rest
+    progress_taken x rest longer marked more room line is ids =
+        let long : length longer ≡ length xs + 1 = simp (is, length-append) (omega arith) in
+        let left : ℕ = form.most - (length xs + 1) in
+        let next = lines_taken form end xs bytes (begins more) left x rest (sym line) in
+        let whole = rw (one_left room) at progress.rest in
+        let read = taken_was form xs bytes x rest (sym line) in
+        let shorter = line_shorter form.takes form.count bytes read.numbers rest read.read in
         record {
-          front = front ++ (x ∷ []);
-          long = simp length-append (omega (arith, progress.long));
-          array = rw (progress.array, ← progress.long) (padded_next form.most blank front x (rw progress.long room));
-          rest = (sym next.0 ∙ rest.0, sym next.1 ∙ rest.1);
+          rest = rw (long, is) (sym next.0 ∙ whole.0, sym next.1 ∙ whole.1);
           few = omega arith;
-          ids = rw (map-append form.id front (x ∷ [])) ids;
-          inside = inside;
+          ids = rw (is, map-append form.id xs (x ∷ [])) ids;
+          inside = omega (arith, progress.inside);
         }
+
+    -- what is taken has allowed values
+    pub progress_allowed :
+        (x : A) (rest : List ℕ) → taken x rest ≡ judged form (map form.id xs) bytes → T (form.allowed x)
+    progress_allowed x rest line = (taken_was form xs bytes x rest (sym line)).allowed
+
+pub ruleset by_lines = (progress_begin, progress_end, progress_many, progress_faulty, progress_taken, progress_allowed)

@@ -1,2 +1,2 @@
 -- What reading a part promises.
-pub mod Arrays
+pub mod Entries

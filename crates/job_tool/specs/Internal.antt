@@ -1,4 +1,4 @@
--- How many bytes a read has given.
-pub mod Counts
 -- What reading a file leaves.
 pub mod Leaves
+-- The words for a file that was not read.
+pub mod Words

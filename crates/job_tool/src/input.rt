@@ -1,30 +1,30 @@
-// Reading into a buffer. Which bytes a read of the system gives, no contract can say.
-ghost use Rattle.job_tool.specs.Internal.Counts.{IsPrefixLen};
+// Reading a file into memory. Which bytes a read of the system gives, no contract can say.
+ghost use Rattle.std.specs.Prelude.{◌≤◌, length};
 
+use arrayvec::ArrayVec;
 use std::io;
 use std::io::Read;
 
-// Reads standard input and gives how many bytes of it stand at the start of the buffer. Where a read fails, the file is what was read
-// before.
-pub fn read_input(rt: &impl Input, file: &mut [u8; 65536]) -> usize
-    ensures { IsPrefixLen result file.new }
+// The bytes of a file, in fixed memory, so that no file is refused for want of memory. There is room for a byte more than a job file
+// may have: a file that fills it is too long, whatever follows.
+pub type JobBytes = ArrayVec<u8, 65536>;
+
+// What standard input gives. Where a read fails, that is what was read before.
+pub fn read_input(rt: &impl Input) -> JobBytes
+    ensures { length result.items ≤ 65536 }
 {
-    let (length, _) = read_full(&mut rt.reader(), file);
-    length
+    let mut file = JobBytes::new();
+    let _ = read_full(rt.reader(), &mut file);
+    file
 }
 
-// Reads until the buffer is full, the input ends or a read fails. Gives how many bytes stand at the start of the buffer, and the
-// failure.
-pub(crate) fn read_full(input: &mut impl Read, file: &mut [u8]) -> (usize, io::Result<()>)
-    ensures { IsPrefixLen result.0 file.new }
+// Reads until the file is full, the input ends or a read fails. What was read before a failure is kept.
+pub(crate) fn read_full(input: impl Read + Drop, file: &mut JobBytes) -> io::Result<()>
+    ensures { length file.new.items ≤ 65536 }
 {
-    let mut done = 0;
-    while done < file.len() {
-        match input.read(&mut file[done..]) {
-            Ok(0) => break,
-            Ok(count) => done += count,
-            Err(error) => return (done, Err(error)),
-        }
-    }
-    (done, Ok(()))
+    file.clear();
+    let end = io::copy(&mut input.take(65536), file);
+    prove!(file.len() <= 65536);
+    end?;
+    Ok(())
 }

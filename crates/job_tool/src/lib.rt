@@ -7,7 +7,7 @@ mod input;
 mod words;
 
 pub use argument::{
-    FileRead, argument_count, read_argument, write_argument, write_name, write_unread,
+    Unread, argument_count, read_argument, write_argument, write_name, write_unread,
 };
-pub use input::read_input;
-pub use words::{StandardError, say, say_cause, say_number, write, write_number, write_refusal};
+pub use input::{JobBytes, read_input};
+pub use words::{StandardError, write_refusal};

@@ -7,41 +7,43 @@ use mathlib.Core.Path.{◌≡◌, refl, ap, sym, subst⁻¹, ◌∙◌}
 use mathlib.Core.Logic.{◌⊎◌, inl, inr}
 use mathlib.Core.Bool.{Bool, true, false, ◌||◌}
 use mathlib.Core.List.{List}
+use Rattle.std.specs.Prelude.{Option, Some}
 use native.Mathlib.Omega.{arith}
 use lib.Dec.{eqb}
 use lib.ListN.{length, get_or, set}
-use lib.Seq.{get_or-set_same, get_or-set_other}
 use borrow.Author.Tests.{ne_eqb}
 use Rattle.ranges.specs.Internal.Counts.{one}
 use Rattle.basics.proofs.Tests.{differ, same_or_not}
 use Rattle.ranges.proofs.Sums.{sum_at}
 use Rattle.glass_set.specs.Internal.Member.{has, Members, Within}
 use Rattle.glass_set.proofs.Members.{within_trans, unvisited_le, unvisited_some}
+use Rattle.matching.specs.Internal.Rows.{way_of}
 use Rattle.matching.specs.Internal.Steps.{Unseen, holding, Exhausted, Grown, Move, stays, moves, is_moved, Servable, Served, Freed, NotFreed}
+use Rattle.matching.proofs.Ways.{way_here, way_there}
 use Rattle.matching.proofs.Growth.{unseen_back, within_with, exhausted_more}
 use Rattle.matching.proofs.Choices.{now_marked, fewer}
 use Rattle.matching.proofs.Links.{moved_unseen, none_moved, few_none, none_twice, few_more, twice_more}
 
 -- The panes that hold each glass, after one pane was given another.
 holding_set :
-    (rows held : List ℕ) (pane glass : ℕ) → length held ≡ length rows → pane < length rows → (g : ℕ) →
-    holding rows (set held pane glass) g + one (eqb (get_or held pane 0) g)
+    (rows : List ℕ) (held : List (Option ℕ)) (pane glass : ℕ) → length held ≡ length rows → pane < length rows → (g : ℕ) →
+    holding rows (set held pane (Some glass)) g + one (eqb (way_of held pane) g)
     ≡ holding rows held g + one (eqb glass g)
 holding_set rows held pane glass long l g =
-    sum_at (λ p. one (eqb (get_or (set held pane glass) p 0) g)) (λ p. one (eqb (get_or held p 0) g))
+    sum_at (λ p. one (eqb (way_of (set held pane (Some glass)) p) g)) (λ p. one (eqb (way_of held p) g))
     (length rows) pane l
-    (λ p k other. ap (λ (x : ℕ). one (eqb x g)) (get_or-set_other held pane p glass 0 other))
-    ∙ ap (λ (x : ℕ). holding rows held g + one (eqb x g)) (get_or-set_same held pane glass 0 (omega arith))
+    (λ p k other. ap (λ (x : ℕ). one (eqb x g)) (way_there held pane p glass other))
+    ∙ ap (λ (x : ℕ). holding rows held g + one (eqb x g)) (way_here held pane glass (omega arith))
 
-module _ (rows before : List ℕ) (pane spare seen : ℕ) where
+module _ (rows : List ℕ) (before : List (Option ℕ)) (pane spare seen : ℕ) where
   -- A spare sheet of an unseen glass is taken.
   pub serve_spare :
       (glass : ℕ) → Servable rows before pane seen →
       Unseen seen glass → has spare glass ≡ true → has (get_or rows pane 0) glass ≡ true →
-      Served rows before (set before pane glass) pane spare seen glass
+      Served rows before (set before pane (Some glass)) pane spare seen glass
   serve_spare glass s unseen at_hand passing =
-      let here : get_or (set before pane glass) pane 0 ≡ glass =
-      get_or-set_same before pane glass 0 (omega (arith, s.same_length, s.of_rows)) in
+      let here : way_of (set before pane (Some glass)) pane ≡ glass =
+      way_here before pane glass (omega (arith, s.same_length, s.of_rows)) in
       let has_unseen = subst⁻¹ (Unseen seen) here unseen in
       let has_passing = subst⁻¹ (λ (g : ℕ). has (get_or rows pane 0) g ≡ true) here passing in
       record {
@@ -65,12 +67,12 @@ module _ (rows before : List ℕ) (pane spare seen : ℕ) where
       }
     where
       go :
-          Unseen seen (get_or (set before pane glass) pane 0) →
-          has (get_or rows pane 0) (get_or (set before pane glass) pane 0) ≡ true →
+          Unseen seen (way_of (set before pane (Some glass)) pane) →
+          has (get_or rows pane 0) (way_of (set before pane (Some glass)) pane) ≡ true →
           (p : ℕ) → (p ≡ pane) ⊎ (p ≡ pane → ⊥) →
-          Move rows before (set before pane glass) seen p ((p ≡ pane) ⊎ Unseen seen (get_or before p 0))
+          Move rows before (set before pane (Some glass)) seen p ((p ≡ pane) ⊎ Unseen seen (way_of before p))
       go u e p (inl same) = moves (inl same) (rw same u) (rw same e)
-      go u e p (inr other) = stays (get_or-set_other before pane p glass 0 other)
+      go u e p (inr other) = stays (way_there before pane p glass other)
 
   -- `marked` has grown from `seen`; a holder of the unmarked `glass` was moved, and the pane takes its sheet.
   module _ (marked glass with_glass : ℕ) (grown : Within seen marked) (unmarked : Unseen marked glass)
@@ -82,32 +84,32 @@ module _ (rows before : List ℕ) (pane spare seen : ℕ) where
     glass_unseen = unseen_back seen marked glass grown unmarked
 
     -- Who leaves for the sake of the glass held an unseen one.
-    left : (p : ℕ) → (get_or before p 0 ≡ glass) ⊎ Unseen with_glass (get_or before p 0) → Unseen seen (get_or before p 0)
+    left : (p : ℕ) → (way_of before p ≡ glass) ⊎ Unseen with_glass (way_of before p) → Unseen seen (way_of before p)
     left p (inl e) = subst⁻¹ (Unseen seen) e glass_unseen
-    left p (inr u) = unseen_back seen with_glass (get_or before p 0) wider u
+    left p (inr u) = unseen_back seen with_glass (way_of before p) wider u
 
-    module _ (mid : List ℕ) (last : ℕ) (long : length mid ≡ length before)
+    module _ (mid : List (Option ℕ)) (last : ℕ) (long : length mid ≡ length before)
         (freed : Freed rows before mid glass spare with_glass last) where
-      pane_stays : get_or mid pane 0 ≡ get_or before pane 0
+      pane_stays : way_of mid pane ≡ way_of before pane
       pane_stays = go (freed.each pane s.of_rows)
         where
           go :
-              Move rows before mid with_glass pane ((get_or before pane 0 ≡ glass) ⊎ Unseen with_glass (get_or before pane 0)) →
-              get_or mid pane 0 ≡ get_or before pane 0
+              Move rows before mid with_glass pane ((way_of before pane ≡ glass) ⊎ Unseen with_glass (way_of before pane)) →
+              way_of mid pane ≡ way_of before pane
           go (stays e) = e
           go (moves l u e) = absurd (s.settled (left pane l))
 
       -- Nobody was moved to the glass, since it was marked.
-      new_glass : (p : ℕ) → p < length rows → is_moved before mid p ≡ true → get_or mid p 0 ≡ glass → ⊥
+      new_glass : (p : ℕ) → p < length rows → is_moved before mid p ≡ true → way_of mid p ≡ glass → ⊥
       new_glass p l moved e =
           let to = moved_unseen rows before mid with_glass p moved (freed.each p l) in
           differ (now_marked marked glass with_glass is_with unmarked.below) (ap (has with_glass) (sym e) ∙ to.out)
 
       pub serve_moved :
-          has (get_or rows pane 0) glass ≡ true → Served rows before (set mid pane glass) pane spare seen last
+          has (get_or rows pane 0) glass ≡ true → Served rows before (set mid pane (Some glass)) pane spare seen last
       serve_moved passing =
-          let here : get_or (set mid pane glass) pane 0 ≡ glass =
-          get_or-set_same mid pane glass 0 (omega (arith, long, s.same_length, s.of_rows)) in
+          let here : way_of (set mid pane (Some glass)) pane ≡ glass =
+          way_here mid pane glass (omega (arith, long, s.same_length, s.of_rows)) in
           let has_unseen = subst⁻¹ (Unseen seen) here glass_unseen in
           let has_passing = subst⁻¹ (λ (g : ℕ). has (get_or rows pane 0) g ≡ true) here passing in
           record {
@@ -134,26 +136,26 @@ module _ (rows before : List ℕ) (pane spare seen : ℕ) where
           }
         where
           go :
-              Unseen seen (get_or (set mid pane glass) pane 0) →
-              has (get_or rows pane 0) (get_or (set mid pane glass) pane 0) ≡ true →
+              Unseen seen (way_of (set mid pane (Some glass)) pane) →
+              has (get_or rows pane 0) (way_of (set mid pane (Some glass)) pane) ≡ true →
               (p : ℕ) → (p ≡ pane) ⊎ (p ≡ pane → ⊥) →
-              Move rows before mid with_glass p ((get_or before p 0 ≡ glass) ⊎ Unseen with_glass (get_or before p 0)) →
-              Move rows before (set mid pane glass) seen p ((p ≡ pane) ⊎ Unseen seen (get_or before p 0))
+              Move rows before mid with_glass p ((way_of before p ≡ glass) ⊎ Unseen with_glass (way_of before p)) →
+              Move rows before (set mid pane (Some glass)) seen p ((p ≡ pane) ⊎ Unseen seen (way_of before p))
           go u e p (inl same) m = moves (inl same) (rw same u) (rw same e)
-          go u e p (inr other) (stays k) = stays (get_or-set_other mid pane p glass 0 other ∙ k)
+          go u e p (inr other) (stays k) = stays (way_there mid pane p glass other ∙ k)
           go u e p (inr other) (moves l v k) =
-              let same = get_or-set_other mid pane p glass 0 other in
+              let same = way_there mid pane p glass other in
               moves
               (inr (left p l))
-              (subst⁻¹ (Unseen seen) same (unseen_back seen with_glass (get_or mid p 0) wider v))
+              (subst⁻¹ (Unseen seen) same (unseen_back seen with_glass (way_of mid p) wider v))
               (rw same k)
 
     -- No holder of the glass can move: the glass is exhausted too.
     pub serve_on :
-        (now : ℕ) → has spare glass ≡ false →
-        Grown rows before spare seen marked → NotFreed rows before before glass spare with_glass now →
+        (after : List (Option ℕ)) (now : ℕ) → has spare glass ≡ false →
+        Grown rows before spare seen marked → NotFreed rows before after glass spare with_glass now →
         Grown rows before spare seen now
-    serve_on now none g f = record {
+    serve_on after now none g f = record {
       keeps = within_trans seen with_glass now wider f.grown.keeps;
       exhausted = λ i l e out. go i l e out (has marked i) refl (same_or_not i glass);
     }

@@ -5,40 +5,41 @@
 --     standing_first     before the first pane
 --     standing_last      after the last pane the placing is a greatest one
 use Prim.Native.Nat.{ℕ, ◌+◌, ◌≤◌, ◌<◌}
-use mathlib.Core.Path.{◌≡◌, refl}
+use mathlib.Core.Path.{◌≡◌, refl, ap}
 use mathlib.Core.Logic.{◌⊎◌, inl, inr}
 use mathlib.Core.Bool.{true}
 use mathlib.Core.List.{List}
+use Rattle.std.specs.Prelude.{Option, None}
+use Rattle.std.proofs.lemmas.List.{get_or-replicate, length-replicate}
 use native.Mathlib.Omega.{arith}
 use lib.Dec.{ltb, eqb}
-use lib.ListN.{length, get_or}
+use lib.ListN.{length, get_or, replicate}
 use borrow.Author.Tests.{ne_eqb, ltb-true}
 use Rattle.ranges.specs.Internal.Counts.{one}
 use Rattle.basics.proofs.Tests.{differ}
 use Rattle.ranges.proofs.Sums.{sum_zero}
 use Rattle.ranges.proofs.Counts.{count_all}
-use Rattle.glass_set.specs.Internal.Member.{has, Members, Within}
+use Rattle.glass_set.specs.Internal.Member.{has, Within}
 use Rattle.glass_set.proofs.Members.{has_none, within_of}
 use Rattle.matching.specs.Internal.Matching.{Greatest}
-use Rattle.matching.specs.Internal.Rows.{task_of, way_of}
+use Rattle.matching.specs.Internal.Rows.{number_held, task_of, way_of}
 use Rattle.matching.specs.Internal.Steps.{holding}
 use Rattle.matching.proofs.Cover.{greatest_of}
 
-abbrev pub Suits : (rows held : List ℕ) (p : ℕ) → Type 0
+abbrev pub Suits : (rows : List ℕ) (held : List (Option ℕ)) (p : ℕ) → Type 0
 Suits rows held p = (way_of held p ≡ 64) ⊎ ((way_of held p < 64) × (has (get_or rows p 0) (way_of held p) ≡ true))
 
 pub record Held (set g : ℕ) : Type 0 where
   pub below : g < 64
   pub in_set : has set g ≡ true
 
--- `left` has the sheets that are left of each glass, and `spare` the glasses that have one left. `tight` has glasses that no
--- pane can leave: all their sheets are given, and neither their holders nor the panes without a glass can have any other. It has
--- none while every pane that had its turn has a glass.
-pub record Standing (rows sheets held left : List ℕ) (spare tight next : ℕ) : Type 0 where
+-- `left` has the sheets that are left of each glass. `tight` has glasses that no pane can leave: all their sheets are given, and
+-- neither their holders nor the panes without a glass can have any other. It has none while every pane that had its turn has a
+-- glass.
+pub record Standing (rows sheets : List ℕ) (held : List (Option ℕ)) (left : List ℕ) (tight next : ℕ) : Type 0 where
   pub same_length : length held ≡ length rows
   pub all_glasses : length left ≡ 64
   pub counted : (g : ℕ) → g < 64 → holding rows held g + get_or left g 0 ≡ get_or sheets g 0
-  pub spares : Members spare (λ g. ltb 0 (get_or left g 0))
   pub suits : (p : ℕ) → p < length rows → Suits rows held p
   pub waiting : (p : ℕ) → next ≤ p → p < length rows → way_of held p ≡ 64
   pub all_given : (g : ℕ) → g < 64 → has tight g ≡ true → get_or left g 0 ≡ 0
@@ -46,31 +47,34 @@ pub record Standing (rows sheets held left : List ℕ) (spare tight next : ℕ) 
   pub left_over : (p : ℕ) → p < next → p < length rows → way_of held p ≡ 64 → Within (get_or rows p 0) tight
   pub none_tight : ((p : ℕ) → p < next → p < length rows → way_of held p < 64) → tight ≡ 0
 
-module _ (rows sheets held : List ℕ) (none : (p : ℕ) → p < length rows → way_of held p ≡ 64) where
-  -- No pane holds a glass where every pane waits.
-  none_held : (g : ℕ) → g < 64 → holding rows held g ≡ 0
+-- Before the first pane no pane holds a glass.
+module _ (rows : List ℕ) where
+  abbrev nothing_held : List (Option ℕ)
+  nothing_held = replicate (length rows) None
+
+  none : (p : ℕ) → p < length rows → way_of nothing_held p ≡ 64
+  none p l = ap number_held (get_or-replicate (length rows) p None None l)
+
+  none_held : (g : ℕ) → g < 64 → holding rows nothing_held g ≡ 0
   none_held g l =
-      sum_zero (λ p. one (eqb (way_of held p) g)) (length rows)
+      sum_zero (λ p. one (eqb (way_of nothing_held p) g)) (length rows)
       (λ p k. rw (none p k, ne_eqb 64 g (λ e. omega (arith, e))))
 
-  pub standing_first :
-      (spare : ℕ) → length held ≡ length rows → length sheets ≡ 64 → Members spare (λ g. ltb 0 (get_or sheets g 0)) →
-      Standing rows sheets held sheets spare 0 0
-  standing_first spare long all spares = record {
-    same_length = long;
+  pub standing_first : (sheets : List ℕ) → length sheets ≡ 64 → Standing rows sheets nothing_held sheets 0 0
+  standing_first sheets all = record {
+    same_length = length-replicate (length rows) None;
     all_glasses = all;
     counted = λ g l. omega (arith, none_held g l);
-    spares = spares;
     suits = λ p l. inl (none p l);
     waiting = λ p k l. none p l;
     all_given = λ g l e. differ e (has_none g);
-    holders = λ p l h. differ h.in_set (has_none (way_of held p));
+    holders = λ p l h. differ h.in_set (has_none (way_of nothing_held p));
     left_over = λ p l k e. absurd (omega arith);
     none_tight = λ all. refl;
   }
 
 -- A pane's glass passes for it; it has one or none.
-module _ (rows held : List ℕ) (p : ℕ) where
+module _ (rows : List ℕ) (held : List (Option ℕ)) (p : ℕ) where
   passes : Suits rows held p → way_of held p < 64 → has (get_or rows p 0) (way_of held p) ≡ true
   passes (inl e) l = absurd (omega (arith, e))
   passes (inr h) l = h.1
@@ -85,9 +89,9 @@ module _ (rows held : List ℕ) (p : ℕ) where
 
 -- The tight glasses show that no other matching serves more.
 pub standing_last :
-    (rows sheets held left : List ℕ) (spare tight next : ℕ) → length rows ≤ next →
-    Standing rows sheets held left spare tight next → Greatest (task_of rows sheets) (way_of held) (has tight)
-standing_last rows sheets held left spare tight next end s =
+    (rows sheets : List ℕ) (held : List (Option ℕ)) (left : List ℕ) (tight next : ℕ) → length rows ≤ next →
+    Standing rows sheets held left tight next → Greatest (task_of rows sheets) (way_of held) (has tight)
+standing_last rows sheets held left tight next end s =
     greatest_of (task_of rows sheets) (has tight) (way_of held)
     (record {
       passing = λ p l. passes rows held p (s.suits p l);

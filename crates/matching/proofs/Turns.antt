@@ -9,12 +9,12 @@ use mathlib.Core.Path.{◌≡◌, refl, ap, sym, ◌∙◌}
 use mathlib.Core.Logic.{◌⊎◌, inl, inr}
 use mathlib.Core.Bool.{Bool, true, false}
 use mathlib.Core.List.{List}
+use Rattle.std.specs.Prelude.{Option}
 use native.Mathlib.Omega.{arith}
 use lib.Dec.{ltb, eqb}
 use lib.ListN.{length, get_or, set, length-set}
 use lib.Seq.{get_or-set_same, get_or-set_other}
 use borrow.Author.Tests.{eq-eqb, ne_eqb, ltb-true, ltb-false}
-use Rattle.std.specs.Prelude.{if◌then◌else◌}
 use Rattle.ranges.specs.Internal.Counts.{one}
 use Rattle.basics.proofs.Tests.{differ, same_or_not, one_more}
 use Rattle.glass_set.specs.Internal.Member.{has, Members, Within}
@@ -28,8 +28,8 @@ abbrev pub taken_from : List ℕ → ℕ → List ℕ
 taken_from left g = set left g (get_or left g 0 - 1)
 
 module _
-    (rows sheets held left : List ℕ) (spare tight next : ℕ)
-    (s : Standing rows sheets held left spare tight next)
+    (rows sheets : List ℕ) (held : List (Option ℕ)) (left : List ℕ) (tight next : ℕ)
+    (s : Standing rows sheets held left tight next)
     (turn : next < length rows)
   where
     waits : way_of held next ≡ 64
@@ -44,13 +44,12 @@ module _
 
     -- A search that is stuck has found more tight glasses, which are kept.
     pub standing_stuck :
-        (after : List ℕ) (now kept : ℕ) → after ≡ held → NotServed rows held held next spare tight now → kept ≡ now →
-        Standing rows sheets after left spare kept (next + 1)
-    standing_stuck after now kept unchanged n same = rw (unchanged, same) (record {
+        (spare : ℕ) → Members spare (λ g. ltb 0 (get_or left g 0)) → (after : List (Option ℕ)) (now : ℕ) →
+        NotServed rows held after next spare tight now → Standing rows sheets after left now (next + 1)
+    standing_stuck spare spares after now n = rw n.unchanged (record {
       same_length = s.same_length;
       all_glasses = s.all_glasses;
       counted = s.counted;
-      spares = s.spares;
       suits = s.suits;
       waiting = λ p k l. s.waiting p (omega arith) l;
       all_given = λ g l e. given g l e (has tight g) refl;
@@ -65,7 +64,7 @@ module _
         given : (g : ℕ) → g < 64 → has now g ≡ true → (x : Bool) → has tight g ≡ x → get_or left g 0 ≡ 0
         given g l e true is = s.all_given g l is
         given g l e false is =
-            let none = sym (s.spares g l) ∙ (n.grown.exhausted g l e is).none_spare in
+            let none = sym (spares g l) ∙ (n.grown.exhausted g l e is).none_spare in
             omega (arith, ltb-false 0 (get_or left g 0) none)
 
         wider : (p : ℕ) → Within (get_or rows p 0) tight → Within (get_or rows p 0) now
@@ -78,13 +77,14 @@ module _
         confined p l h false is = (n.grown.exhausted (way_of held p) h.below h.in_set is).holders p l refl
 
     module _
-        (after : List ℕ) (last : ℕ) (long : length after ≡ length held)
+        (spare : ℕ) (spares : Members spare (λ g. ltb 0 (get_or left g 0)))
+        (after : List (Option ℕ)) (last : ℕ) (long : length after ≡ length held)
         (m : Served rows held after next spare tight last)
       where
         -- The last glass of the chain had a sheet left.
         pub some_left : 0 < get_or left last 0
         some_left =
-            ltb-true 0 (get_or left last 0) (sym (s.spares last m.chain.last_unseen.below) ∙ m.chain.last_spare)
+            ltb-true 0 (get_or left last 0) (sym (spares last m.chain.last_unseen.below) ∙ m.chain.last_spare)
 
         left_here : get_or (taken_from left last) last 0 ≡ get_or left last 0 - 1
         left_here =
@@ -111,69 +111,53 @@ module _
                 let c = rw (ne_eqb last g (λ e. other (sym e))) at counts in
                 omega (arith, c, left_there g other, s.counted g l)
 
-        -- The glasses with a sheet left, where of the last one more is given.
-        module _
-            (spare_after : ℕ)
-            (is : Members spare_after (λ g. if eqb g last then ltb 0 (get_or left last 0 - 1) else has spare g))
+        -- The chain began and ended at glasses that are not tight, and so did every move.
+        pub standing_moved : Standing rows sheets after (taken_from left last) tight (next + 1)
+        standing_moved = record {
+          same_length = long ∙ s.same_length;
+          all_glasses = length-set left last (get_or left last 0 - 1) ∙ s.all_glasses;
+          counted = counted_after;
+          suits = λ p l. suited p l (m.chain.each p l);
+          waiting = λ p k l. waits_on p k l (m.chain.each p l);
+          all_given = λ g l e. given g l e (same_or_not g last);
+          holders = λ p l h. kept p l h (m.chain.each p l);
+          left_over =
+              one_more (λ p. p < length rows → way_of after p ≡ 64 → Within (get_or rows p 0) tight) next
+              (λ p l k e. over p l k e (m.chain.each p k))
+              (λ k e. absurd (omega (arith, e, m.has_unseen.below)));
+          none_tight = λ all. s.none_tight (λ p l k. had p l (all p (omega arith) k) (m.chain.each p k));
+        }
           where
-            spares_after : Members spare_after (λ g. ltb 0 (get_or (taken_from left last) g 0))
-            spares_after g l = is g l ∙ go (same_or_not g last)
-              where
-                go :
-                    (g ≡ last) ⊎ (g ≡ last → ⊥) →
-                    (if eqb g last then ltb 0 (get_or left last 0 - 1) else has spare g)
-                    ≡ ltb 0 (get_or (taken_from left last) g 0)
-                go (inl same) = rw (eq-eqb g last same, same, left_here)
-                go (inr other) = rw (ne_eqb g last other, left_there g other, s.spares g l)
+            Moves : ℕ → Type 0
+            Moves p = Move rows held after tight p ((p ≡ next) ⊎ Unseen tight (way_of held p))
 
-            -- The chain began and ended at glasses that are not tight, and so did every move.
-            pub standing_moved : Standing rows sheets after (taken_from left last) spare_after tight (next + 1)
-            standing_moved = record {
-              same_length = long ∙ s.same_length;
-              all_glasses = length-set left last (get_or left last 0 - 1) ∙ s.all_glasses;
-              counted = counted_after;
-              spares = spares_after;
-              suits = λ p l. suited p l (m.chain.each p l);
-              waiting = λ p k l. waits_on p k l (m.chain.each p l);
-              all_given = λ g l e. given g l e (same_or_not g last);
-              holders = λ p l h. kept p l h (m.chain.each p l);
-              left_over =
-                  one_more (λ p. p < length rows → way_of after p ≡ 64 → Within (get_or rows p 0) tight) next
-                  (λ p l k e. over p l k e (m.chain.each p k))
-                  (λ k e. absurd (omega (arith, e, m.has_unseen.below)));
-              none_tight = λ all. s.none_tight (λ p l k. had p l (all p (omega arith) k) (m.chain.each p k));
-            }
-              where
-                Moves : ℕ → Type 0
-                Moves p = Move rows held after tight p ((p ≡ next) ⊎ Unseen tight (way_of held p))
+            suited : (p : ℕ) → p < length rows → Moves p → Suits rows after p
+            suited p l (stays e) = rw e (s.suits p l)
+            suited p l (moves from to e) = inr (to.below, e)
 
-                suited : (p : ℕ) → p < length rows → Moves p → Suits rows after p
-                suited p l (stays e) = rw e (s.suits p l)
-                suited p l (moves from to e) = inr (to.below, e)
+            waits_on : (p : ℕ) → next + 1 ≤ p → p < length rows → Moves p → way_of after p ≡ 64
+            waits_on p k l (stays e) = e ∙ s.waiting p (omega arith) l
+            waits_on p k l (moves (inl same) to e) = absurd (omega (arith, same))
+            waits_on p k l (moves (inr from) to e) =
+                absurd (omega (arith, from.below, s.waiting p (omega arith) l))
 
-                waits_on : (p : ℕ) → next + 1 ≤ p → p < length rows → Moves p → way_of after p ≡ 64
-                waits_on p k l (stays e) = e ∙ s.waiting p (omega arith) l
-                waits_on p k l (moves (inl same) to e) = absurd (omega (arith, same))
-                waits_on p k l (moves (inr from) to e) =
-                    absurd (omega (arith, from.below, s.waiting p (omega arith) l))
+            given :
+                (g : ℕ) → g < 64 → has tight g ≡ true → (g ≡ last) ⊎ (g ≡ last → ⊥) →
+                get_or (taken_from left last) g 0 ≡ 0
+            given g l e (inl same) = differ (ap (has tight) (sym same) ∙ e) m.chain.last_unseen.out
+            given g l e (inr other) = left_there g other ∙ s.all_given g l e
 
-                given :
-                    (g : ℕ) → g < 64 → has tight g ≡ true → (g ≡ last) ⊎ (g ≡ last → ⊥) →
-                    get_or (taken_from left last) g 0 ≡ 0
-                given g l e (inl same) = differ (ap (has tight) (sym same) ∙ e) m.chain.last_unseen.out
-                given g l e (inr other) = left_there g other ∙ s.all_given g l e
+            kept : (p : ℕ) → p < length rows → Held tight (way_of after p) → Moves p → Within (get_or rows p 0) tight
+            kept p l h (stays e) = s.holders p l (rw e at h)
+            kept p l h (moves from to e) = differ h.in_set to.out
 
-                kept : (p : ℕ) → p < length rows → Held tight (way_of after p) → Moves p → Within (get_or rows p 0) tight
-                kept p l h (stays e) = s.holders p l (rw e at h)
-                kept p l h (moves from to e) = differ h.in_set to.out
+            over :
+                (p : ℕ) → p < next → p < length rows → way_of after p ≡ 64 → Moves p → Within (get_or rows p 0) tight
+            over p l k e (stays f) = s.left_over p l k (sym f ∙ e)
+            over p l k e (moves from to f) = absurd (omega (arith, e, to.below))
 
-                over :
-                    (p : ℕ) → p < next → p < length rows → way_of after p ≡ 64 → Moves p → Within (get_or rows p 0) tight
-                over p l k e (stays f) = s.left_over p l k (sym f ∙ e)
-                over p l k e (moves from to f) = absurd (omega (arith, e, to.below))
-
-                -- A pane that has had its turn and has a glass now had one already.
-                had : (p : ℕ) → p < next → way_of after p < 64 → Moves p → way_of held p < 64
-                had p l h (stays e) = rw e at h
-                had p l h (moves (inl same) to e) = absurd (omega (arith, same))
-                had p l h (moves (inr from) to e) = from.below
+            -- A pane that has had its turn and has a glass now had one already.
+            had : (p : ℕ) → p < next → way_of after p < 64 → Moves p → way_of held p < 64
+            had p l h (stays e) = rw e at h
+            had p l h (moves (inl same) to e) = absurd (omega (arith, same))
+            had p l h (moves (inr from) to e) = from.below

@@ -2,67 +2,65 @@
 //
 // `serve` and `free` call each other. A glass that is looked at goes into the set `seen`, and none that is in it is looked at
 // again, so the number of unvisited glasses falls with every link, and no chain has more links than there were such glasses.
-// specs/Internal/Steps.antt says what each call leaves.
+// specs/Internal/Steps.antt says what each call leaves. Both give the glass whose spare sheet was taken at the end of the chain.
 ghost use Rattle.matching.specs.Internal.Steps.{Servable, Serves, Freeable, Frees};
 
-use glass_set::{both, first, minus, with};
+use glass_set::{both, find_first, minus, with};
 
-// What a search gives: the glass whose spare sheet was taken at the end of a chain of moves; or no chain, and all the glasses
-// that were seen.
-#[derive(Drop)]
-pub enum Search {
-    Moved(usize),
-    Stuck(u64),
+// There is no chain of moves: all the glasses that were seen.
+#[derive(Clone, Copy)]
+pub struct Stuck {
+    pub seen: u64,
 }
 
-// Gives a pane a glass that is not in `seen`: one of `spare`, which has the glasses with a sheet to spare, or else one that
-// another pane can leave.
-#[cycle(free_serve)]
-pub fn serve(rows: &[u64], held: &mut [usize], pane: usize, spare: u64, seen: u64) -> Search
-    requires { Servable rows.now held.old pane seen }
-    ensures { Serves rows.now held.old held.new pane spare seen result }
-{
-    let row = rows[pane];
-    let at_hand = minus(both(row, spare), seen);
-    if at_hand != 0 {
-        let glass = first(at_hand);
-        held[pane] = glass;
-        return Search::Moved(glass);
-    }
-    let mut marked = seen;
-    loop {
-        let rest = minus(row, marked);
-        if rest == 0 {
-            return Search::Stuck(marked);
-        }
-        let glass = first(rest);
-        match free(rows, held, glass, spare, with(marked, glass)) {
-            Search::Moved(last) => {
-                held[pane] = glass;
-                return Search::Moved(last);
-            }
-            Search::Stuck(reached) => marked = reached,
-        }
-    }
+// What a search reads: a row for each pane, and the glasses with a sheet to spare. The glasses that panes hold, which it changes,
+// are lent beside it: were they a field, each call would have to promise that the rows and the spare glasses stay.
+#[derive(Clone, Copy)]
+pub struct Search<'a> {
+    pub rows: &'a [u64],
+    pub spare: u64,
 }
 
-// Takes one of the panes that hold a glass over to another glass, which is not in `seen`.
-#[cycle(free_serve)]
-pub fn free(rows: &[u64], held: &mut [usize], glass: usize, spare: u64, seen: u64) -> Search
-    requires { Freeable rows.now held.old glass seen }
-    ensures { Frees rows.now held.old held.new glass spare seen result }
-{
-    let mut marked = seen;
-    let mut next = 0;
-    while next < rows.len() {
-        let pane = next;
-        next += 1;
-        if held[pane] == glass {
-            match serve(rows, held, pane, spare, marked) {
-                Search::Moved(last) => return Search::Moved(last),
-                Search::Stuck(grown) => marked = grown,
+impl Search<'_> {
+    // Gives a pane a glass that is not in `seen`: one with a sheet to spare, or else one that another pane can leave.
+    #[cycle(free_serve)]
+    pub fn serve(&self, held: &mut [Option<usize>], pane: usize, seen: u64) -> Result<usize, Stuck>
+        requires { Servable self.now.rows.now held.old pane seen }
+        ensures { Serves self.now.rows.now held.old held.new pane self.now.spare seen result }
+    {
+        let row = self.rows[pane];
+        if let Some(glass) = find_first(minus(both(row, self.spare), seen)) {
+            held[pane] = Some(glass);
+            return Ok(glass);
+        }
+        let mut marked = seen;
+        while let Some(glass) = find_first(minus(row, marked)) {
+            match self.free(held, glass, with(marked, glass)) {
+                Ok(last) => {
+                    held[pane] = Some(glass);
+                    return Ok(last);
+                }
+                Err(stuck) => marked = stuck.seen,
             }
         }
+        Err(Stuck { seen: marked })
     }
-    Search::Stuck(marked)
+
+    // Takes one of the panes that hold a glass over to another glass, which is not in `seen`.
+    #[cycle(free_serve)]
+    pub fn free(&self, held: &mut [Option<usize>], glass: usize, seen: u64) -> Result<usize, Stuck>
+        requires { Freeable self.now.rows.now held.old glass seen }
+        ensures { Frees self.now.rows.now held.old held.new glass self.now.spare seen result }
+    {
+        let mut grown = seen;
+        for pane in 0..self.rows.len() {
+            if held[pane] == Some(glass) {
+                match self.serve(held, pane, grown) {
+                    Ok(last) => return Ok(last),
+                    Err(stuck) => grown = stuck.seen,
+                }
+            }
+        }
+        Err(Stuck { seen: grown })
+    }
 }

@@ -1,143 +1,87 @@
 // The calls that a file is tried with, and the refusal that is due from each: document 01, "What each cause gives".
-ghost use Rattle.std.specs.Prelude.{◌≤◌};
-
-use crate::job::{Due, Job, job_of};
-use crate::lists::{FILLINGS, LONGEST, filled, is_same_from};
+use crate::job::Job;
+use crate::lists::{Filling, Length, Lists};
 use crate::rules::{Outcome, Rule, check_result};
-use causes::{Cause, number_of};
-use placing::Placed;
+use causes::{Cause, Refusal};
+use row_placing::PlaceCounts;
 
-// The result of a call, and the lists that it left.
-#[derive(Drop)]
-struct Called {
-    result: Placed,
-    answers: [u32; LONGEST],
-    group: [u32; LONGEST],
+// How the two lists of a call are filled, both alike, and how long each is.
+#[derive(Clone, Copy, PartialEq)]
+struct Call {
+    filling: Filling,
+    group: Length,
+    answers: Length,
 }
 
-// How many calls are made: three lengths of each list, and the ways to fill them.
-const CALLS: usize = 9 * FILLINGS;
+// The call whose outcome stands for all, where none is wrong.
+const PLAIN: Call = Call {
+    filling: Filling::Zeros,
+    group: Length::JustEnough,
+    answers: Length::JustEnough,
+};
 
-// Makes every call with a file. Where none is wrong, what comes of the first stands for all, with lists just long enough.
-pub(crate) fn try_file(file: &[u8]) -> Outcome {
-    let job = job_of(file);
-    let mut call = 1;
-    while call < CALLS {
-        if let Outcome::Wrong(rule) = try_call(file, job, call) {
-            return Outcome::Wrong(rule);
-        }
-        call += 1;
-    }
-    try_call(file, job, 0)
-}
-
-// The number of a call gives the length of its answer list, that of its group list, and how they are filled.
-fn try_call(file: &[u8], job: Job, call: usize) -> Outcome {
-    let pane_ids = job.pane_ids;
-    let glass_ids = job.glass_ids;
-    let before = filled(call / 9, pane_ids, glass_ids);
-    let answers_length = length_of(call % 3, job.pane_count);
-    let group_length = length_of(call / 3 % 3, job.pane_count);
-    let due = due_of(job, answers_length, group_length);
-    let called = call_place(file, before, answers_length, group_length);
-    let result = called.result;
-    let answers = called.answers;
-    let group = called.group;
-    match result {
-        Placed::Refused { cause, offset } => {
-            if !is_due(due, cause, offset) {
-                return Outcome::Wrong(Rule::Refusal);
+// Makes every call with a file, the plain one last.
+pub(crate) fn try_file(file: &[u8], job: &Job) -> Result<Outcome, Rule> {
+    for filling in Filling::ALL {
+        for group in Length::ALL {
+            for answers in Length::ALL {
+                let call = Call {
+                    filling,
+                    group,
+                    answers,
+                };
+                if call != PLAIN {
+                    call.try_with(file, job)?;
+                }
             }
-            try_refusal(cause, offset, before, answers, group)
         }
-        Placed::Counts(counts) => {
-            if let Due::Refusal {
-                cause: _,
-                offset: _,
-            } = due
-            {
-                return Outcome::Wrong(Rule::Refusal);
+    }
+    PLAIN.try_with(file, job)
+}
+
+impl Call {
+    // Makes the call, and holds what comes of it to the rules. A refused call writes no list.
+    fn try_with(self, file: &[u8], job: &Job) -> Result<Outcome, Rule> {
+        let (placed, lists) = self.make(file, job);
+        match (placed, self.due(job)) {
+            (Ok(counts), Ok(())) => check_result(job, counts, &lists),
+            (Err(refusal), Err(due)) if refusal == due => {
+                Rule::RefusedLists.check(lists.are_answers_kept(0) && lists.is_group_kept(0))?;
+                Ok(Outcome::Refused(refusal))
             }
-            check_result(job, counts, before, answers, group)
+            _ => Err(Rule::Refusal),
         }
     }
-}
 
-// Makes a call with two lists that are filled alike.
-fn call_place(
-    file: &[u8],
-    before: [u32; LONGEST],
-    answers_length: usize,
-    group_length: usize,
-) -> Called
-    requires { (answers_length ≤ 300) × (group_length ≤ 300) }
-{
-    let mut answers = before;
-    let mut group = before;
-    let result = placing::place(
-        file,
-        &mut answers[..answers_length],
-        &mut group[..group_length],
-    );
-    Called {
-        result,
-        answers,
-        group,
+    // Makes the call with the first entries of two lists.
+    fn make(self, file: &[u8], job: &Job) -> (Result<PlaceCounts, Refusal>, Lists) {
+        let answers_length = self.answers.for_panes(job.panes.len());
+        let group_length = self.group.for_panes(job.panes.len());
+        let before = self.filling.list(job);
+        let mut answers = before;
+        let mut group = before;
+        let placed = placing::place(
+            file,
+            &mut answers[..answers_length],
+            &mut group[..group_length],
+        );
+        let lists = Lists {
+            before,
+            answers,
+            group,
+        };
+        (placed, lists)
     }
-}
 
-// The length of a lent list: just enough for the panes, the most, or one too few.
-fn length_of(choice: usize, pane_count: usize) -> usize
-    ensures { result ≤ 300 }
-{
-    if LONGEST < pane_count {
-        return LONGEST;
-    }
-    match choice {
-        0 => pane_count,
-        1 => LONGEST,
-        _ => { if pane_count == 0 { 0 } else { pane_count - 1 } }
-    }
-}
-
-// What is due: the file's own refusal, or else one where a list is too short.
-fn due_of(job: Job, answers_length: usize, group_length: usize) -> Due {
-    let due = job.due;
-    if let Due::Counts = due {
-        if (answers_length < job.pane_count) | (group_length < job.pane_count) {
-            return Due::Refusal {
-                cause: Cause::ListTooShort,
-                offset: 0,
-            };
+    // What is due: the file's own refusal, or else one where a list is too short.
+    fn due(self, job: &Job) -> Result<(), Refusal> {
+        job.due?;
+        let pane_count = job.panes.len();
+        if self.answers.for_panes(pane_count) < pane_count
+            || self.group.for_panes(pane_count) < pane_count
+        {
+            return Err(Cause::ListTooShort.at(0));
         }
+        Ok(())
     }
-    due
-}
-
-// Whether a refusal is the one that is due.
-fn is_due(due: Due, cause: Cause, offset: usize) -> bool {
-    match due {
-        Due::Counts => false,
-        Due::Refusal {
-            cause: due_cause,
-            offset: due_offset,
-        } => (number_of(cause) == number_of(due_cause)) & (offset == due_offset),
-    }
-}
-
-// A refused call writes no list.
-fn try_refusal(
-    cause: Cause,
-    offset: usize,
-    before: [u32; LONGEST],
-    answers: [u32; LONGEST],
-    group: [u32; LONGEST],
-) -> Outcome {
-    if !is_same_from(0, before, answers) {
-        return Outcome::Wrong(Rule::RefusedLists);
-    }
-    if !is_same_from(0, before, group) {
-        return Outcome::Wrong(Rule::RefusedLists);
-    }
-    Outcome::Refused { cause, offset }
 }

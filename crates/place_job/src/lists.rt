@@ -1,39 +1,86 @@
-// The lent lists, and what stands in them before a call.
+// The lists that a call is lent, and what stands in them before it and after it.
+ghost use Rattle.std.specs.Prelude.{◌≤◌};
+
+use crate::job::Job;
+use std::array;
 
 // The most entries that a list is lent with: more than a file can have panes.
 pub(crate) const LONGEST: usize = 300;
 
-// How many ways there are to fill a list.
-pub(crate) const FILLINGS: usize = 4;
-
-// A list before a call: zeros, the largest number throughout, the ids of the panes, or those of the glasses again and again.
-pub(crate) fn filled(filling: usize, pane_ids: [u32; 256], glass_ids: [u32; 64]) -> [u32; LONGEST] {
-    let mut list = [0u32; LONGEST];
-    let mut i = 0;
-    while i < LONGEST {
-        list[i] = entry(filling, pane_ids[i % 256], glass_ids[i % 64]);
-        i += 1;
-    }
-    list
+// What stands in a list before a call.
+#[derive(Clone, Copy, PartialEq)]
+pub(crate) enum Filling {
+    Zeros,
+    // the largest number throughout
+    Largest,
+    // the ids of the panes, or those of the glasses, again and again
+    PaneIds,
+    GlassIds,
 }
 
-fn entry(filling: usize, pane_id: u32, glass_id: u32) -> u32 {
-    match filling {
-        0 => 0,
-        1 => 4294967295,
-        2 => pane_id,
-        _ => glass_id,
-    }
-}
+impl Filling {
+    pub(crate) const ALL: [Filling; 4] = [
+        Filling::Zeros,
+        Filling::Largest,
+        Filling::PaneIds,
+        Filling::GlassIds,
+    ];
 
-// Whether a list is as it was before, from the entry `from` on.
-pub(crate) fn is_same_from(from: usize, before: [u32; LONGEST], after: [u32; LONGEST]) -> bool {
-    let mut i = from;
-    while i < LONGEST {
-        if before[i] != after[i] {
-            return false;
+    // 256 entries or 64 to a turn, with 0 behind the last pane or glass.
+    pub(crate) fn list(self, job: &Job) -> [u32; LONGEST] {
+        match self {
+            Filling::Zeros => [0; LONGEST],
+            Filling::Largest => [u32::MAX; LONGEST],
+            Filling::PaneIds => array::from_fn(|i| job
+                .panes
+                .get(i % 256)
+                .map_or(0, |pane| pane.id)),
+            Filling::GlassIds => array::from_fn(|i| job
+                .glasses
+                .get(i % 64)
+                .map_or(0, |glass| glass.id)),
         }
-        i += 1;
     }
-    true
+}
+
+// How long a list is lent.
+#[derive(Clone, Copy, PartialEq)]
+pub(crate) enum Length {
+    JustEnough,
+    Longest,
+    OneTooFew,
+}
+
+impl Length {
+    pub(crate) const ALL: [Length; 3] = [Length::JustEnough, Length::Longest, Length::OneTooFew];
+
+    pub(crate) fn for_panes(self, pane_count: usize) -> usize
+        ensures { result ≤ 300 }
+    {
+        let enough = pane_count.min(LONGEST);
+        match self {
+            Length::JustEnough => enough,
+            Length::Longest => LONGEST,
+            Length::OneTooFew => enough.saturating_sub(1),
+        }
+    }
+}
+
+// The two lists of a call: what stood in both before it, and what stands in each after it.
+#[derive(Drop)]
+pub(crate) struct Lists {
+    pub(crate) before: [u32; LONGEST],
+    pub(crate) answers: [u32; LONGEST],
+    pub(crate) group: [u32; LONGEST],
+}
+
+impl Lists {
+    // Whether the answers are as before from the entry `from` on.
+    pub(crate) fn are_answers_kept(&self, from: usize) -> bool {
+        self.before.get(from..) == self.answers.get(from..)
+    }
+
+    pub(crate) fn is_group_kept(&self, from: usize) -> bool {
+        self.before.get(from..) == self.group.get(from..)
+    }
 }

@@ -12,56 +12,51 @@ mod groups;
 mod job;
 mod lists;
 mod rules;
-mod words;
 
-use job_tool::{FileRead, StandardError, write, write_number};
-use rules::Outcome;
+use job::Job;
+use job_tool::{JobBytes, StandardError};
+use rules::{Outcome, Rule};
+use std::alloc::Global;
 use std::io;
 use std::rt::{Env, Files};
-use words::write_outcome;
 
 fn main(rt: HostRuntime) -> io::Result<()> {
     let count = job_tool::argument_count(&rt);
     if count < 2 {
-        words::say_usage(&rt);
+        let _ = eprintln!(rt; "usage: place_job FILE..");
         return Ok(());
     }
-    let mut jobs = 0;
-    let mut wrong = 0;
-    let mut i = 1;
-    while i < count {
-        let outcome = try_argument(&rt, i)?;
-        i += 1;
-        write_outcome(&rt, outcome)?;
-        match outcome {
-            Outcome::Unread => {}
-            Outcome::Wrong(_) => {
-                jobs += 1;
+    let mut jobs = 0u64;
+    let mut wrong = 0u64;
+    for i in 1..count {
+        if let Some(tried) = try_argument(&rt, i)? {
+            jobs += 1;
+            if tried.is_err() {
                 wrong += 1;
             }
-            _ => {
-                jobs += 1;
-            }
         }
     }
-    write_number(&rt, jobs)?;
-    write(&rt, b" jobs, ")?;
-    write_number(&rt, wrong)?;
-    write(&rt, b" wrong\n")
+    println!(rt; "{jobs} jobs, {wrong} wrong")
 }
 
-// Tries the file that argument `i` names, and begins its line; where it is not opened or not read, writes the whole line.
-fn try_argument<R: Env + Files + Print + StandardError>(rt: &R, i: usize) -> io::Result<Outcome> {
-    let mut file = [0u8; 65536];
-    let read = job_tool::read_argument(rt, i, &mut file);
-    match read {
-        FileRead::Bytes(length) => {
-            job_tool::write_name(rt, i)?;
-            Ok(calls::try_file(&file[..length]))
-        }
-        _ => {
-            job_tool::write_unread(rt, i, read)?;
-            Ok(Outcome::Unread)
-        }
+// Tries the file that argument `i` names and writes its line. None where the file was not opened or not read.
+fn try_argument<R: Alloc<A = Global> + Env + Files + Print + StandardError>(
+    rt: &R,
+    i: usize,
+) -> io::Result<Option<Result<Outcome, Rule>>> {
+    let mut file = JobBytes::new();
+    if let Err(unread) = job_tool::read_argument(rt, i, &mut file) {
+        job_tool::write_unread(rt, i, unread)?;
+        return Ok(None);
     }
+    job_tool::write_name(rt, i)?;
+    let job = Job::of(rt.alloc(), &file)?;
+    let tried = calls::try_file(&file, &job);
+    match tried {
+        Ok(Outcome::Full) => println!(rt; "full")?,
+        Ok(Outcome::Short(left_over)) => println!(rt; "short by {left_over}")?,
+        Ok(Outcome::Refused(refusal)) => job_tool::write_refusal(rt, refusal)?,
+        Err(rule) => println!(rt; "wrong: {rule}")?,
+    }
+    Ok(Some(tried))
 }

@@ -3,20 +3,17 @@
 use crate::answers::check_answers;
 use crate::groups::{check_full_group, check_short_group};
 use crate::job::Job;
-use crate::lists::LONGEST;
-use causes::Cause;
+use crate::lists::Lists;
+use causes::Refusal;
 use row_placing::PlaceCounts;
+use std::fmt;
 
-// What came of a file, or of a call with it: all panes were placed, or so many were left over; a refusal; or the first rule that was
-// found broken.
+// What came of a file, or of a call with it, that keeps the rules: all panes were placed, or so many were left over; or a refusal.
 #[derive(Clone, Copy)]
 pub(crate) enum Outcome {
-    // the file was not opened or not read
-    Unread,
     Full,
     Short(usize),
-    Refused { cause: Cause, offset: usize },
-    Wrong(Rule),
+    Refused(Refusal),
 }
 
 // The rules, each named for what it is about.
@@ -38,21 +35,47 @@ pub(crate) enum Rule {
     GroupOrder,
 }
 
-// Holds a result, and the lists that the call left, to the rules.
-pub(crate) fn check_result(
-    job: Job,
-    counts: PlaceCounts,
-    before: [u32; LONGEST],
-    answers: [u32; LONGEST],
-    group: [u32; LONGEST],
-) -> Outcome {
-    if counts.wanted != job.pane_count {
-        return Outcome::Wrong(Rule::Wanted);
+impl Rule {
+    // The rule is broken where `is_kept` is false.
+    pub(crate) fn check(self, is_kept: bool) -> Result<(), Rule> {
+        if is_kept { Ok(()) } else { Err(self) }
     }
-    let outcome = check_answers(job, counts.placed, before, answers);
-    match outcome {
-        Outcome::Full => check_full_group(counts.group, before, group),
-        Outcome::Short(left_over) => check_short_group(job, left_over, counts.group, before, group),
-        _ => outcome,
+}
+
+// How a rule is broken.
+impl fmt::Display for Rule {
+    fn fmt<W: fmt::Write>(&self, f: &mut fmt::Formatter<W>) -> fmt::Result {
+        f.write_str(match self {
+            Rule::Refusal => "the call is refused, or not, otherwise than is due",
+            Rule::RefusedLists => "a refused call wrote a list",
+            Rule::Wanted => "wanted is not the number of panes",
+            Rule::Placed => "placed is not the number of answers other than 0",
+            Rule::Stock => "a glass is given more often than it has sheets",
+            Rule::Answers => "an answer is not a glass that passes for its pane",
+            Rule::Spare => "a pane has 0, but a passing glass has a sheet to spare",
+            Rule::LaterEntries => "an entry behind the answers or behind the group was written",
+            Rule::FullGroup => "all panes are placed, but the group has a count or was written",
+            Rule::EmptyGroup => "not all panes are placed, but the group is empty",
+            Rule::GroupIds => "a group entry is not the id of a pane, or is there twice",
+            Rule::GroupSheets => "the group is not short: its glasses have a sheet for each pane",
+            Rule::GroupShortage => "the group lacks fewer or more sheets than panes are left over",
+            Rule::GroupOrder => "the ids of the group do not rise from first to last",
+        })
+    }
+}
+
+// Holds the counts of a call, and the lists that it left, to the rules.
+pub(crate) fn check_result(job: &Job, counts: PlaceCounts, lists: &Lists) -> Result<Outcome, Rule> {
+    Rule::Wanted.check(counts.wanted == job.panes.len())?;
+    check_answers(job, counts.placed, lists)?;
+    match counts.wanted.saturating_sub(counts.placed) {
+        0 => {
+            check_full_group(counts.group, lists)?;
+            Ok(Outcome::Full)
+        }
+        left_over => {
+            check_short_group(job, left_over, counts.group, lists)?;
+            Ok(Outcome::Short(left_over))
+        }
     }
 }

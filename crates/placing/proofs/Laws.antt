@@ -5,5 +5,3 @@ pub use Rattle.placing.proofs.Promises.{counted_of}
 pub use Rattle.placing.proofs.Shortages.{sheets_missing}
 -- Of lists of answers.
 pub use Rattle.row_placing.proofs.Laws.{nonzero_le}
--- Of the numbers of a job that was read.
-pub use Rattle.placing.proofs.Schedules.{few_numbers}

@@ -1,7 +1,7 @@
 -- The front page: what crates above may cite.
 pub mod Laws
 -- The rows are the verdicts; rows, stocks and ids state the schedule of a job.
-pub mod Bits
+pub mod RowsSoFar
 pub mod Schedules
 -- The promise of the call, by what the file says.
 pub mod Promises

@@ -3,23 +3,34 @@
 --     promised_short      a lent list is shorter than the number of panes
 --     promised_counted    neither
 --     counted_of          what the promise says then
-use Prim.Native.Nat.{ℕ, ◌≤◌}
+use Prim.Native.Nat.{ℕ, ◌≤◌, ◌<◌, min}
 use mathlib.Core.Path.{◌≡◌, refl}
-use mathlib.Core.Bool.{true, false, ◌||◌}
+use mathlib.Core.Bool.{Bool, true, false, ◌||◌}
 use mathlib.Core.List.{List}
+use native.Mathlib.Omega.{arith}
 use lib.Dec.{ltb}
 use lib.ListN.{length}
-use borrow.Author.Tests.{le-ltb}
-use Rattle.causes.specs.Answer.{Answer, refusal}
+use borrow.Author.Tests.{lt-ltb, le-ltb, ltb-false}
+use Rattle.basics.specs.Lent.{lent}
+use Rattle.causes.specs.Answer.{gives, refusal}
 use Rattle.causes.specs.declared.Cause.{Cause}
 use Rattle.causes.specs.declared.Cause.TheVariants.{ListTooShort}
 use Rattle.job_glass.specs.declared.Glass.{Glass}
 use Rattle.job_pane.specs.declared.Pane.{Pane}
 use Rattle.job_file.specs.File.{Outcome, accepted, refused}
 use Rattle.job_file.specs.Entries.{stocks_of}
+use Rattle.row_placing.specs.Glazed.{Glazed}
 use Rattle.row_placing.specs.declared.PlaceCounts.{PlaceCounts}
 use Rattle.placing.specs.FileSchedule.{schedule_of}
 use Rattle.placing.specs.Promise.{Call, call, RefusedCall, PlacedCall, Promised}
+
+-- A list is too short where the shorter of the two is.
+too_short : (a g n : ℕ) → min a g < n → (ltb a n || ltb g n) ≡ true
+too_short a g n short = go (ltb a n) refl
+  where
+    go : (b : Bool) → ltb a n ≡ b → (b || ltb g n) ≡ true
+    go true low = refl
+    go false high = lt-ltb g n (omega (arith, ltb-false a n high))
 
 module _ (o : Outcome) (answers group : List ℕ) where
   -- A call that is refused for a cause.
@@ -34,18 +45,24 @@ module _ (o : Outcome) (answers group : List ℕ) where
   promised_refusal cause offset is = rw (is, Promised) (is_refusal cause offset)
 
   module _ (glasses : List Glass) (panes : List Pane) (is : o ≡ accepted glasses panes) where
-    pub promised_short :
-        (ltb (length answers) (length panes) || ltb (length group) (length panes)) ≡ true → Promised o (kept ListTooShort 0)
+    pub promised_short : min (length answers) (length group) < length panes → Promised o (kept ListTooShort 0)
     unfolding Promised
-    promised_short short = rw (is, Promised, short) (is_refusal ListTooShort 0)
+    promised_short short =
+        rw (is, Promised, too_short (length answers) (length group) (length panes) short) (is_refusal ListTooShort 0)
 
     pub promised_counted :
-        (result : Answer PlaceCounts) (answers_after group_after : List ℕ) →
-        (ltb (length answers) (length panes) || ltb (length group) (length panes)) ≡ false →
-        PlacedCall (schedule_of glasses (stocks_of glasses) panes) (call result answers answers_after group group_after) →
-        Promised o (call result answers answers_after group group_after)
+        (counts : PlaceCounts) (answers_after group_after : List ℕ) → length panes ≤ min (length answers) (length group) →
+        Glazed (schedule_of glasses (stocks_of glasses) panes) counts (lent answers answers_after) (lent group group_after) →
+        Promised o (call (gives counts) answers answers_after group group_after)
     unfolding Promised
-    promised_counted result answers_after group_after long counted = rw (is, Promised, long) counted
+    promised_counted counts answers_after group_after long g =
+        rw (
+          is,
+          Promised,
+          le-ltb (length answers) (length panes) (omega arith),
+          le-ltb (length group) (length panes) (omega arith),
+        )
+        (record { counts = counts; result_is = refl; glazed = g })
 
 pub counted_of :
     (o : Outcome) (glasses : List Glass) (panes : List Pane) (c : Call) → o ≡ accepted glasses panes →

@@ -1,25 +1,18 @@
--- The rows and the numbers that are made of a job that was read state its schedule.
+-- What is made of a job that was read states its schedule.
 --     known_file    an accepted file has what the placing asks of a schedule
---     stated_job    its rows and numbers state its schedule
---     few_numbers   the numbers are of at most 256 panes
---     taken_long    as many entries of a list of 256 as panes
-use Prim.Native.Nat.{ℕ, ◌≤◌, ◌<◌}
+--     stated_job    its rows, stocks and ids state its schedule
+use Prim.Native.Nat.{ℕ}
 use mathlib.Core.Path.{◌≡◌, ap, sym, ◌∙◌}
 use mathlib.Core.List.{List}
-use native.Mathlib.Omega.{arith}
-use lib.ListN.{length, get_or, take, length-map, get_or-map, get_or-append}
-use lib.Seq.{length-take-le, get_or-take}
-use Rattle.basics.specs.Internal.Arrays.{padded}
+use lib.ListN.{get_or, replicate, length-map, get_or-map, get_or-append}
+use Rattle.basics.specs.Internal.Arrays.{written}
 use Rattle.job_glass.specs.GlassLine.{blank_glass}
 use Rattle.job_glass.specs.declared.Glass.{Glass}
 use Rattle.job_pane.specs.PaneLine.{blank_pane}
 use Rattle.job_pane.specs.declared.Pane.{Pane}
-use Rattle.job_file.specs.Internal.Job.{glasses_of, panes_of, numbers_of, ReadJob}
 use Rattle.job_file.specs.Entries.{glass_ids_of, pane_ids_of, stocks_of}
 use Rattle.job_file.specs.Rules.{Rules}
-use Rattle.job_file.specs.declared.job.Job.{Job}
-use Rattle.job_file.specs.declared.job.JobNumbers.{JobNumbers}
-use Rattle.job_file.proofs.Laws.{glass_values, pane_values, glass_ids, pane_ids, few_panes, as_many_panes, pane_ids_lent}
+use Rattle.job_file.proofs.Laws.{glass_values, pane_values, glass_ids, pane_ids}
 use Rattle.row_placing.specs.Internal.Stated.{Known, Stated}
 use Rattle.placing.specs.FileSchedule.{schedule_of}
 use Rattle.placing.specs.Internal.Steps.{JobRows}
@@ -40,42 +33,17 @@ module _ {glasses : List Glass} {panes : List Pane} (rules : Rules glasses panes
     panes_differ = λ i j l k e. pane_ids rules i j l (rw length-map at k) (sym (pane_id_at i) ∙ e ∙ pane_id_at j);
   }
 
-module _ (job : Job) (r : ReadJob job) (rows : List ℕ) (numbers : JobNumbers) where
-  abbrev glasses : List Glass
-  glasses = glasses_of job
-
-  abbrev panes : List Pane
-  panes = panes_of job
-
-  -- An entry of a list at the front of an array.
-  at_front : (xs array : List ℕ) (g : ℕ) → array ≡ padded 64 0 xs → g < length xs → get_or array g 0 ≡ get_or xs g 0
-  at_front xs array g is l = rw is (get_or-append xs _ 0 g l)
-
-  pub stated_job :
-      length rows ≡ 256 → JobRows (schedule_of glasses (stocks_of glasses) panes) rows → numbers ≡ numbers_of glasses panes →
-      Stated (schedule_of glasses (stocks_of glasses) panes) (take numbers.pane_count rows) numbers.stocks
-      numbers.glass_ids (take numbers.pane_count numbers.pane_ids)
-  stated_job long are_rows are = record {
-    known = known_file r.rules (stocks_of glasses);
-    a_row_each = length-take-le count rows (omega (arith, long, as_many_panes job r numbers are, few_panes job r)) ∙ as_many;
-    rows_are = λ i l j k. rw (get_or-take count rows i 0 (omega (arith, as_many))) (are_rows.of_panes i l j k);
-    sheets_are =
-        λ i l.
-        at_front (stocks_of glasses) numbers.stocks i (ap (λ (n : JobNumbers). n.stocks) are) (rw length-map (rw length-map at l));
-    glass_ids_are =
-        λ i l. at_front (glass_ids_of glasses) numbers.glass_ids i (ap (λ (n : JobNumbers). n.glass_ids) are) l;
-    pane_ids_are = λ i l. ap (λ (ids : List ℕ). get_or ids i 0) (pane_ids_lent numbers glasses panes are);
-  }
-    where
-      count : ℕ
-      count = numbers.pane_count
-
-      as_many : numbers.pane_count ≡ length (pane_ids_of panes)
-      as_many = ap (λ (n : JobNumbers). n.pane_count) are ∙ sym (length-map panes (λ x. x.id))
-
-pub few_numbers :
-    (job : Job) → ReadJob job → (n : JobNumbers) → n ≡ numbers_of (glasses_of job) (panes_of job) → n.pane_count ≤ 256
-few_numbers job read n are = omega (arith, as_many_panes job read n are, few_panes job read)
-
-pub taken_long : (count : ℕ) (xs : List ℕ) → length xs ≡ 256 → count ≤ 256 → length (take count xs) ≡ count
-taken_long count xs long few = length-take-le count xs (omega (arith, long, few))
+-- The rows, stocks and ids of a job's glasses and panes state its schedule.
+pub stated_job :
+    {glasses : List Glass} {panes : List Pane} → Rules glasses panes → (rows stocks lent_ids ids : List ℕ) →
+    JobRows (schedule_of glasses (stocks_of glasses) panes) rows → stocks ≡ written (stocks_of glasses) (replicate 64 0) →
+    lent_ids ≡ written (glass_ids_of glasses) (replicate 64 0) →
+    ids ≡ pane_ids_of panes → Stated (schedule_of glasses (stocks_of glasses) panes) rows stocks lent_ids ids
+stated_job {glasses} {panes} rules rows stocks lent_ids ids are_rows stocks_are lent_are ids_are = record {
+  known = known_file rules (stocks_of glasses);
+  a_row_each = are_rows.a_row_each;
+  rows_are = are_rows.of_panes;
+  sheets_are = λ g l. rw stocks_are (get_or-append (stocks_of glasses) _ 0 g (rw length-map (rw length-map at l)));
+  glass_ids_are = λ g l. rw lent_are (get_or-append (glass_ids_of glasses) _ 0 g l);
+  pane_ids_are = λ p l. ap (λ (ns : List ℕ). get_or ns p 0) ids_are;
+}

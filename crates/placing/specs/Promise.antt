@@ -1,9 +1,10 @@
 -- What the call `place` promises: document 01, "The placing" and "What each cause gives", the owner's three demands, and document 02,
 -- 2026-04 and 2026-05. Of every file and every two lists it is refused, with the number and the offset of the first cause and both lists
 -- as they were, or it has placed the panes of the file; and it is refused only where there is a cause.
-use Rattle.std.specs.Prelude.{ℕ, ◌≡◌, Bool, true, false, ◌||◌, List, ltb, length}
+use Rattle.std.specs.Prelude.{ℕ, ◌≡◌, Bool, true, false, ◌||◌, List, Result, Ok, Err, ltb, length}
 use Rattle.causes.specs.Answer.{Answer, gives, refusal}
 use Rattle.causes.specs.declared.Cause.{Cause}
+use Rattle.causes.specs.declared.Refusal.{Refusal}
 use Rattle.causes.specs.declared.Cause.TheVariants.{ListTooShort}
 use Rattle.job_file.specs.File.{Outcome, accepted, refused}
 use Rattle.job_file.specs.Entries.{stocks_of}
@@ -12,13 +13,11 @@ use Rattle.basics.specs.Lent.{Lent, lent}
 use Rattle.row_placing.specs.Glazed.{Glazed}
 use Rattle.row_placing.specs.declared.PlaceCounts.{PlaceCounts}
 use Rattle.placing.specs.FileSchedule.{schedule_of}
-use Rattle.placing.specs.declared.Placed.{Placed}
-use Rattle.placing.specs.declared.Placed.TheVariants.{Counts, Refused}
 
 -- What each case of the code's result says: the counts wanted, placed and group, or a refusal.
-abbrev pub placed_says : Placed → Answer PlaceCounts
-placed_says (Counts c) = gives c
-placed_says (Refused cause offset) = refusal cause offset
+abbrev pub placed_says : Result PlaceCounts Refusal → Answer PlaceCounts
+placed_says (Ok counts) = gives counts
+placed_says (Err r) = refusal r.cause r.offset
 
 -- A call: its result, and the two lent lists before it and after it.
 pub record Call : Type 0 where

@@ -1,58 +1,40 @@
 // The row of each pane of a job, from the verdicts.
-ghost use Rattle.std.specs.Prelude.{◌≡◌, ◌&&◌, ◌||◌, ◌<◌, eqb};
-ghost use Rattle.job_glass.specs.Internal.Values.{GlassValues};
-ghost use Rattle.job_pane.specs.Internal.Values.{PaneValues};
-ghost use Rattle.job_file.specs.Internal.Job.{glasses_of, panes_of, ReadJob};
-ghost use Rattle.job_file.specs.Entries.{stocks_of};
-ghost use Rattle.glass_set.specs.Internal.Member.{has, Members};
-ghost use Rattle.clauses.specs.Internal.Loaded.{HasTables, loaded_of};
+ghost use Rattle.std.specs.Prelude.{◌≤◌, ◌&&◌, ltb, length};
+ghost use Rattle.glass_set.specs.Internal.Member.{Members};
+ghost use Rattle.job_file.specs.Entries.{glass_at, stocks_of};
+ghost use Rattle.job_file.specs.Internal.Job.{glasses_of, panes_of};
 ghost use Rattle.placing.specs.FileSchedule.{passes_for, schedule_of};
 ghost use Rattle.placing.specs.Internal.Steps.{JobRows};
 
-use clauses::{ClauseTables, LoadedPane, Verdict, clause_tables, judge_loaded, load_pane};
+use arrayvec::ArrayVec;
+use clauses::{LoadedPane, Verdict};
 use glass_set::with;
 use job_file::Job;
 use job_glass::Glass;
+use job_pane::Pane;
 
-// The row of each pane of a job, and 0 past the last. What a verdict takes of the pane alone is worked out once a pane.
-#[tactic(auto, using(job_file::proofs::Laws::few_glasses, job_file::proofs::Laws::few_panes))]
-pub fn rows_of(job: Job) -> [u64; 256]
-    requires { ReadJob job }
-    ensures { JobRows (schedule_of (glasses_of job) (stocks_of (glasses_of job)) (panes_of job)) result }
+// The row of each pane of a job.
+pub fn rows_of(job: &Job) -> ArrayVec<u64, 256>
+    ensures { JobRows (schedule_of (glasses_of job.now) (stocks_of (glasses_of job.now)) (panes_of job.now)) result.items }
 {
-    let tables = clause_tables();
-    let mut rows = [0u64; 256];
-    let mut p = 0;
-    while p < job.pane_count {
-        let pane = job.panes[p];
-        let loaded = load_pane(pane);
-        let mut row = 0;
-        let mut g = 0;
-        while g < job.glass_count {
-            let glass = job.glasses[g];
-            row = with_verdict(row, g, &tables, loaded, glass);
-            g += 1;
-        }
-        rows[p] = row;
-        p += 1;
+    let mut rows = ArrayVec::new();
+    for pane in job.panes.iter() {
+        rows.push(row_of(*pane, &job.glasses));
     }
     rows
 }
 
-// A row with the bit of one glass more, set where the verdict is "passes".
-fn with_verdict(
-    row: u64,
-    number: usize,
-    tables: &ClauseTables,
-    loaded: LoadedPane,
-    glass: Glass,
-) -> u64
-    requires { (number < 64) × HasTables tables.now
-        × (loaded ≡ loaded_of loaded.pane) × PaneValues loaded.pane × GlassValues glass }
-    ensures { Members result (λ g. (eqb g number && passes_for loaded.pane glass) || has row g) }
+// The set of the glasses that pass for a pane. What a verdict takes of the pane alone is worked out once.
+fn row_of(pane: Pane, glasses: &[Glass]) -> u64
+    requires { length glasses.now ≤ 64 }
+    ensures { Members result (λ g. ltb g (length glasses.now) && passes_for pane (glass_at glasses.now g)) }
 {
-    match judge_loaded(tables, loaded, glass) {
-        Verdict::Passes => with(row, number),
-        Verdict::Fails(_) => row,
+    let loaded = LoadedPane::of(pane);
+    let mut row = 0;
+    for (number, glass) in glasses.iter().enumerate() {
+        if let Verdict::Passes = loaded.judge(*glass) {
+            row = with(row, number);
+        }
     }
+    row
 }

@@ -4,10 +4,11 @@ use Rattle.job_glass.specs.declared.Glass.{Glass}
 use Rattle.job_pane.specs.declared.Pane.{Pane}
 use Rattle.point_load.specs.LiveLoad.{live_load}
 use Rattle.span_table.specs.Spans.{max_span}
+use Rattle.span_table.specs.declared.Column.{Column}
 use Rattle.point_load.specs.Support.{column_of, span_of}
 
 -- The entry for a pane and a glass, in a column.
-abbrev pub entry_in : (column : ℕ) → Pane → Glass → ℕ
+abbrev pub entry_in : Column → Pane → Glass → ℕ
 entry_in column p g = max_span g.kind (live_load p.angle p.awning) g.thick column
 
 -- The clause fails where the span is larger than the entry in the pane's column; an equal one passes.

@@ -2,17 +2,15 @@
 #![tactic(auto)]
 
 mod live_load;
-mod sides;
 mod support;
 
-ghost use Rattle.std.specs.Prelude.{◌≡◌, ◌<◌};
-ghost use Rattle.span_table.specs.Internal.Steps.{HasSpans};
+ghost use Rattle.std.specs.Prelude.{◌≡◌};
 ghost use Rattle.point_load.specs.Internal.Steps.{point_load_of, too_wide};
 
 use job_glass::Glass;
 use job_pane::Pane;
 use live_load::live_load;
-use span_table::{SpanTable, max_span};
+use span_table::{Column, max_span};
 use support::column;
 pub use support::span;
 
@@ -21,26 +19,27 @@ pub use support::span;
 pub struct PointLoad {
     // live, in tenths of a kN
     pub load: u32,
-    // of Tables 6.2 to 6.5, counted from 0
-    pub column: usize,
+    // of Tables 6.2 to 6.5
+    pub column: Column,
     // B, in mm
     pub span: u32,
 }
 
-pub fn point_load_of(pane: Pane) -> PointLoad
-    ensures { result ≡ point_load_of pane }
-{
-    PointLoad {
-        load: live_load(pane.angle, pane.awning),
-        column: column(pane),
-        span: span(pane),
+impl PointLoad {
+    pub fn of(pane: Pane) -> Self
+        ensures { result ≡ point_load_of pane }
+    {
+        PointLoad {
+            load: live_load(pane.angle, pane.awning),
+            column: column(pane),
+            span: span(pane),
+        }
     }
-}
 
-// Whether a pane's span is above what its glass may span. The table is lent: all_spans of span_table makes it.
-pub fn is_too_wide(table: &SpanTable, point: PointLoad, glass: Glass) -> bool
-    requires { HasSpans table.now × (point.column < 4) }
-    ensures { result ≡ too_wide point glass }
-{
-    max_span(table, glass.kind, point.load, glass.thick, point.column) < point.span
+    // Whether the pane's span is above what its glass may span.
+    pub fn is_too_wide_for(self, glass: Glass) -> bool
+        ensures { result ≡ too_wide self glass }
+    {
+        max_span(glass.kind, self.load, glass.thick, self.column) < self.span
+    }
 }

@@ -6,11 +6,9 @@ ghost use Rattle.point_load.specs.LiveLoad.{live_load};
 pub fn live_load(angle: u32, awning: u32) -> u32
     ensures { result ≡ live_load angle awning }
 {
-    match awning {
-        1 => 18,
-        _ => match angle {
-            0..=29 => 11,
-            _ => 5,
-        },
+    match (awning, angle) {
+        (1, _) => 18,
+        (_, 0..=29) => 11,
+        _ => 5,
     }
 }

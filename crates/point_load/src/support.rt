@@ -2,34 +2,25 @@
 ghost use Rattle.std.specs.Prelude.{◌≡◌};
 ghost use Rattle.point_load.specs.Support.{column_of, span_of};
 
-use crate::sides::{longer, shorter};
 use job_pane::Pane;
-
-// The columns of Tables 6.2 to 6.5, in their order.
-const AR_1: usize = 0;
-
-const AR_2: usize = 1;
-
-const AR_3: usize = 2;
-
-const TWO_EDGE: usize = 3;
+use span_table::Column;
 
 // The column of Tables 6.2 to 6.5 that a pane reads.
-pub fn column(pane: Pane) -> usize
+pub fn column(pane: Pane) -> Column
     ensures { result ≡ column_of pane }
 {
-    let width = shorter(pane.w, pane.h) as u64;
-    let length = longer(pane.w, pane.h) as u64;
+    let width = u64::from(pane.w.min(pane.h));
+    let length = u64::from(pane.w.max(pane.h));
     if pane.edges == 2 {
-        TWO_EDGE
+        Column::TwoEdge
     } else if pane.w == pane.h {
-        AR_1
+        Column::Ar1
     } else if length <= 2 * width {
-        AR_2
+        Column::Ar2
     } else if length <= 3 * width {
-        AR_3
+        Column::Ar3
     } else {
-        TWO_EDGE
+        Column::TwoEdge
     }
 }
 
@@ -40,6 +31,6 @@ pub fn span(pane: Pane) -> u32
     if pane.edges == 2 {
         pane.w
     } else {
-        shorter(pane.w, pane.h)
+        pane.w.min(pane.h)
     }
 }

@@ -1,4 +1,4 @@
--- Sums and tests over the numbers below a bound.
+-- Sums and tests over the numbers below a bound. The library's own are of lists, and a list of numbers to sum over is no plainer.
 use Rattle.std.specs.Prelude.{ℕ, zero, suc, ◌+◌, Bool, false, ◌||◌}
 
 -- f 0 + f 1 + .. below n.

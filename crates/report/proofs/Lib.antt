@@ -1,5 +1,4 @@
--- Bytes written one after the other.
-pub mod Wrote
+-- Numbers and lines as they are written.
 pub mod Written
--- The promise of the call, from what was written.
+-- What a text of a placing asks, and whose it is.
 pub mod Printed

@@ -1,125 +1,88 @@
--- How long written numbers are, and how they grow by a digit and by a number.
---     digits_length        as many digits as asked for
---     few_digits, number_five     a number has at most five
---     number_four          a number up to 9999 has at most four
---     digits_none, digits_next    the last digit is written first, and then those before it
---     numbers_one, numbers_next    one number, and one number more
---     numbers_long, pair_long, panes_long    how many bytes ids, lines of two numbers and the lines of panes have at most
-use Prim.Native.Nat.{ℕ, zero, suc, ◌+◌, ◌*◌, ◌/◌, ◌%◌, ◌≤◌, ◌<◌}
-use mathlib.Core.Path.{◌≡◌, refl, ap, sym, ◌∙◌}
-use mathlib.Core.Bool.{Bool, true, false}
+-- Numbers as they are written: what the library prints of them, and how long that is.
+--     number_printed            a number of at most five digits is written as the library prints it
+--     number_five, number_four  it has at most five digits, and one up to 9999 has at most four
+use Prim.Native.Nat.{ℕ, suc, ◌+◌, ◌/◌, ◌%◌, ◌≤◌, ◌<◌}
+use mathlib.Core.Path.{◌≡◌, ap, sym}
+use mathlib.Core.Logic.{inl, inr}
 use mathlib.Core.List.{List, [], ◌∷◌, ◌++◌, append_assoc, append-nil}
-use native.Mathlib.Nat.{add-zero}
 use native.Mathlib.Numerals.{add-one}
 use native.Mathlib.Omega.{arith}
-use lib.Dec.{ltb}
-use lib.ListN.{length, get_or, take, drop, set, length-append, take-append-drop}
-use lib.Seq.{set_split, take-set-le, drop_at, length-take-le}
-use borrow.Author.Tests.{lt-ltb}
-use Rattle.std.specs.Prelude.{if◌then◌else◌}
-use Rattle.job_line.specs.Bytes.{space, newline}
+use lib.ListN.{length, get_or, take}
+use borrow.Author.Tests.{lt-ltb, le-ltb}
+use Rattle.std.specs.Fmt.{decimal}
+use Rattle.std.proofs.lemmas.Bool.{cases_lt}
+use Rattle.std.proofs.lemmas.List.{take_more}
+use Rattle.std.proofs.lemmas.Fmt.{decimal_digit, decimal_step, length-decimal-le}
+use Rattle.job_line.specs.Bytes.{space}
 use Rattle.job_line.specs.WrittenNumber.{written_digits, digit_count, written_number, written_numbers}
 use Rattle.report.specs.Text.{pair_line, pane_lines}
-use Rattle.report.specs.Internal.Steps.{FourDigits, PaneAnswers}
 
-pub digits_length : (count n : ℕ) → length (written_digits count n) ≡ count
+one_digit : (n : ℕ) → n < 10 → written_digits 1 n ≡ decimal n
 unfolding written_digits
-digits_length zero n = refl
-digits_length (suc count) n =
-    length-append (written_digits count (n / 10)) ((48 + n % 10) ∷ []) ∙ omega (arith, digits_length count (n / 10))
+one_digit n small = let same : n % 10 ≡ n = omega arith in rw (decimal_digit n small, same)
 
-pub few_digits : (n : ℕ) → digit_count n ≤ 5
-unfolding digit_count
-few_digits n = go (ltb n 10) (ltb n 100) (ltb n 1000) (ltb n 10000)
-  where
-    go : (a b c d : Bool) → (if a then 1 else if b then 2 else if c then 3 else if d then 4 else 5) ≤ 5
-    go true b c d = omega arith
-    go false true c d = omega arith
-    go false false true d = omega arith
-    go false false false true = omega arith
-    go false false false false = omega arith
-
-fewer_digits : (n : ℕ) → n ≤ 9999 → digit_count n ≤ 4
-unfolding digit_count
-fewer_digits n small = rw (lt-ltb n 10000 (omega arith)) (go (ltb n 10) (ltb n 100) (ltb n 1000))
-  where
-    go : (a b c : Bool) → (if a then 1 else if b then 2 else if c then 3 else 4) ≤ 4
-    go true b c = omega arith
-    go false true c = omega arith
-    go false false true = omega arith
-    go false false false = omega arith
-
-pub number_five : (n : ℕ) → length (written_number n) ≤ 5
-unfolding written_number
-number_five n = rw digits_length (few_digits n)
-
-pub number_four : (n : ℕ) → n ≤ 9999 → length (written_number n) ≤ 4
-unfolding written_number
-number_four n small = rw digits_length (fewer_digits n small)
-
--- What a buffer becomes by the digits of a number, from a place on.
-abbrev pub with_digits : ℕ → ℕ → ℕ → List ℕ → List ℕ
-with_digits at count n buffer = take at buffer ++ (written_digits count n ++ drop (at + count) buffer)
-
-pub digits_none : (at n : ℕ) (buffer : List ℕ) → with_digits at 0 n buffer ≡ buffer
+next_digit :
+    (count n : ℕ) → 10 ≤ n → n ≤ 99999 → written_digits count (n / 10) ≡ decimal (n / 10) → written_digits (suc count) n ≡ decimal n
 unfolding written_digits
-digits_none at n buffer = rw add-zero (take-append-drop at buffer)
+next_digit count n low high is = rw (is, decimal_step n low (omega arith))
 
-pub digits_next :
-    (at left n : ℕ) (buffer : List ℕ) → at + left < length buffer →
-    with_digits at left (n / 10) (set buffer (at + left) (48 + n % 10)) ≡ with_digits at (left + 1) n buffer
-unfolding written_digits
-digits_next at left n buffer fits =
-    let d : ℕ = 48 + n % 10 in
-    let k : ℕ = at + left in
-    let cut : drop k (set buffer k d) ≡ d ∷ drop (suc k) buffer =
-    rw (set_split buffer k d fits)
-    (drop_at (take k buffer) (d ∷ drop (suc k) buffer) k (length-take-le k buffer (omega (arith, fits)))) in
-    let next : suc k ≡ at + suc left = omega arith in
-    rw (take-set-le at buffer k d (omega arith), cut, add-one left, ← next)
-    (ap (λ (l : List ℕ). take at buffer ++ l)
-    (sym (append_assoc (written_digits left (n / 10)) (d ∷ []) (drop (suc k) buffer))))
+two_digits : (n : ℕ) → 10 ≤ n → n < 100 → written_digits 2 n ≡ decimal n
+two_digits n low high = next_digit 1 n low (omega arith) (one_digit (n / 10) (omega arith))
 
-pub numbers_one : (n : ℕ) → written_numbers (n ∷ []) ≡ space ∷ written_number n
-unfolding written_numbers
-numbers_one n = ap (λ (l : List ℕ). space ∷ l) (append-nil (written_number n))
+three_digits : (n : ℕ) → 100 ≤ n → n < 1000 → written_digits 3 n ≡ decimal n
+three_digits n low high = next_digit 2 n (omega arith) (omega arith) (two_digits (n / 10) (omega arith) (omega arith))
 
-pub numbers_next : (ns : List ℕ) (n : ℕ) → written_numbers (ns ++ (n ∷ [])) ≡ written_numbers ns ++ (space ∷ written_number n)
+four_digits : (n : ℕ) → 1000 ≤ n → n < 10000 → written_digits 4 n ≡ decimal n
+four_digits n low high = next_digit 3 n (omega arith) (omega arith) (three_digits (n / 10) (omega arith) (omega arith))
+
+five_digits : (n : ℕ) → 10000 ≤ n → n ≤ 99999 → written_digits 5 n ≡ decimal n
+five_digits n low high = next_digit 4 n (omega arith) (omega arith) (four_digits (n / 10) (omega arith) (omega arith))
+
+pub number_printed : (n : ℕ) → n ≤ 99999 → written_number n ≡ decimal n
+unfolding written_number digit_count
+number_printed n high =
+    elim (cases_lt n 10) [
+      | inl less ↦ rw (lt-ltb n 10 less) (one_digit n less)
+      | inr more ↦
+          rw (le-ltb n 10 more)
+          (elim (cases_lt n 100) [
+            | inl less ↦ rw (lt-ltb n 100 less) (two_digits n more less)
+            | inr more ↦
+                rw (le-ltb n 100 more)
+                (elim (cases_lt n 1000) [
+                  | inl less ↦ rw (lt-ltb n 1000 less) (three_digits n more less)
+                  | inr more ↦
+                      rw (le-ltb n 1000 more)
+                      (elim (cases_lt n 10000) [
+                        | inl less ↦ rw (lt-ltb n 10000 less) (four_digits n more less)
+                        | inr more ↦ rw (le-ltb n 10000 more) (five_digits n more high)
+                      ])
+                ])
+          ])
+    ]
+
+pub number_five : (n : ℕ) → n ≤ 99999 → length (decimal n) ≤ 5
+number_five n high = length-decimal-le 5 n (omega arith) (omega arith) (omega arith)
+
+pub number_four : (n : ℕ) → n ≤ 9999 → length (decimal n) ≤ 4
+number_four n high = length-decimal-le 4 n (omega arith) (omega arith) (omega arith)
+
+-- One number more, a space before it.
+numbers_next : (ns : List ℕ) (n : ℕ) → written_numbers (ns ++ (n ∷ [])) ≡ written_numbers ns ++ (space ∷ written_number n)
 unfolding written_numbers
 numbers_next [] n = ap (λ (l : List ℕ). space ∷ l) (append-nil (written_number n))
 numbers_next (m ∷ ns) n =
     rw (numbers_next ns n)
     (ap (λ (l : List ℕ). space ∷ l) (sym (append_assoc (written_number m) (written_numbers ns) (space ∷ written_number n))))
 
-pub numbers_long : (ns : List ℕ) → FourDigits ns → length (written_numbers ns) ≤ 5 * length ns
-unfolding written_numbers
-numbers_long [] short = omega arith
-numbers_long (n ∷ ns) short =
-    let rest = numbers_long ns (λ k l. short (suc k) (omega arith)) in
-    omega (arith, length-append (written_number n) (written_numbers ns), number_four n (short 0 (omega arith)), rest)
+pub fields_next :
+    (ns : List ℕ) (k : ℕ) → k < length ns →
+    written_numbers (take (k + 1) ns) ≡ written_numbers (take k ns) ++ (space ∷ written_number (get_or ns k 0))
+fields_next ns k within = rw (take_more ns k 0 within, numbers_next (take k ns) (get_or ns k 0))
 
-pub pair_long : (a b : ℕ) → a ≤ 9999 → b ≤ 9999 → length (pair_line a b) ≤ 10
-pair_long a b m n =
-    let fields = length-append (written_numbers (b ∷ [])) (newline ∷ []) in
-    let one = ap length (numbers_one b) in
-    omega (
-      arith,
-      length-append (written_number a) (written_numbers (b ∷ []) ++ (newline ∷ [])),
-      fields,
-      one,
-      number_four a m,
-      number_four b n,
-    )
-
-pub panes_long :
-    (ids answers : List ℕ) → PaneAnswers ids answers →
-    (n : ℕ) → n ≤ length answers → length (pane_lines ids answers n) ≤ 10 * n
+-- One pane's line more.
+pub lines_next :
+    (ids answers : List ℕ) (n pane glass : ℕ) → pane ≡ get_or ids n 0 → glass ≡ get_or answers n 0 →
+    pane_lines ids answers (n + 1) ≡ pane_lines ids answers n ++ pair_line pane glass
 unfolding pane_lines
-panes_long ids answers a zero l = omega arith
-panes_long ids answers a (suc n) l =
-    omega (
-      arith,
-      length-append (pane_lines ids answers n) (pair_line (get_or ids n 0) (get_or answers n 0)),
-      panes_long ids answers a n (omega arith),
-      pair_long (get_or ids n 0) (get_or answers n 0) (a.ids_short n (omega (arith, a.one_each))) (a.answers_short n (omega arith)),
-    )
+lines_next ids answers n pane glass pane_is glass_is = rw (add-one n, pane_is, glass_is)

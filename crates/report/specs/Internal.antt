@@ -1,2 +1,2 @@
--- What the functions of the crate ask and leave.
+-- What the functions of the crate ask.
 pub mod Steps

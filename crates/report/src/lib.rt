@@ -4,44 +4,48 @@
 #![tactic(auto)]
 
 mod line;
-mod number;
 mod text;
 
 ghost use Rattle.job_file.specs.File.{outcome_of};
-ghost use Rattle.report.specs.Reported.{Reported};
+ghost use Rattle.report.specs.Reported.{Reported, TextOf, TextOfPlacing};
 
-use causes::number_of;
-use job_file::{Checked, numbers_of, read_job};
+use job_file::{Job, read_job};
+use line::Text;
 use placing::place_panes;
-use text::{write_placing, write_refusal};
+use text::{placing_text, refusal_text};
 
 // Writes the text for a file to the front of a buffer, and answers how many bytes it has. The longest text, of 256 panes that
-// are all in the short group, has 3,851.
+// are all in the short group, has 3,851. C calls it so, with a buffer and for a count.
 pub fn report(file: &[u8], text: &mut [u8; 4096]) -> usize
     ensures { Reported (outcome_of file.now) text.old text.new result }
 {
-    let job = read_job(file);
-    let checked = job.checked;
-    match checked {
-        Checked::Refused { cause, offset } => write_refusal(number_of(cause), offset, text),
-        Checked::Accepted {
-            glass_count: _,
-            pane_count: _,
-        } => {
-            let numbers = numbers_of(job);
-            let ids = numbers.pane_ids;
-            let count = numbers.pane_count;
-            let mut answers = [0u32; 256];
-            let mut group = [0u32; 256];
-            let counts = place_panes(job, &mut answers, &mut group);
-            let listed = counts.group;
-            write_placing(
-                &ids[..count],
-                &answers[..count],
-                counts.placed,
-                &group[..listed],
-                text,
-            )
-        }
+    let whole = text_of(file);
+    let length = whole.len();
+    text[..length].copy_from_slice(whole.as_str().as_bytes());
+    length
+}
+
+// The text of a file.
+fn text_of(file: &[u8]) -> Text
+    ensures { TextOf (outcome_of file.now) result.bytes }
+{
+    match read_job(file) {
+        Ok(job) => text_of_job(&job),
+        Err(refusal) => refusal_text(refusal),
     }
+}
+
+// The text of a job's placing. The lists are those that `place` has from C, with the counts of what was written.
+fn text_of_job(job: &Job) -> Text
+    ensures { TextOfPlacing job.now.glasses.items job.now.panes.items result.bytes }
+{
+    let mut answers = [0u32; 256];
+    let mut group = [0u32; 256];
+    let counts = place_panes(job, &mut answers, &mut group);
+    placing_text(
+        &job.panes,
+        &answers[..counts.wanted],
+        counts.placed,
+        &group[..counts.group],
+    )
 }

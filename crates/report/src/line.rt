@@ -1,47 +1,59 @@
-// Parts of lines: words, numbers behind a word, and whole lines of two numbers.
-ghost use Rattle.std.specs.Prelude.{◌+◌, ◌*◌, ◌≤◌, length};
-ghost use Rattle.job_line.specs.WrittenNumber.{written_numbers};
+// Texts as they grow: numbers, fields of lines, and whole lines. Each function asks for room for the longest that it may write.
+ghost use Rattle.std.specs.Prelude.{◌≡◌, ◌+◌, ◌*◌, ◌≤◌, ◌∷◌, ◌++◌, length};
+ghost use Rattle.arrayvec.specs.ArrayString.{array_string_len};
+ghost use Rattle.job_line.specs.Bytes.{space};
+ghost use Rattle.job_line.specs.WrittenNumber.{written_number, written_numbers};
 ghost use Rattle.report.specs.Text.{pair_line};
-ghost use Rattle.report.specs.Internal.Steps.{WroteAt, FourDigits};
+ghost use Rattle.report.specs.Internal.Steps.{FourDigits};
 
-use crate::number::{write_field, write_number};
+use arrayvec::ArrayString;
+use itoa::Buffer;
 
-// Writes a line of two numbers of at most four digits; the place behind it.
-pub fn write_pair(a: usize, b: usize, text: &mut [u8], at: usize) -> usize
-    requires { (a ≤ 9999) × (b ≤ 9999) × (at + 10 ≤ length text.old) }
-    ensures { WroteAt (pair_line a b) at text.old text.new result }
+// A text before it is copied to the caller's buffer, which has as much room.
+pub type Text = ArrayString<4096>;
+
+// A number of at most five digits, by `itoa`: `write!` into a text of fixed room does not say when it fits.
+#[tactic(auto, using(crate::proofs::Written::number_printed, crate::proofs::Written::number_five, crate::proofs::Written::number_four))]
+pub fn push_number(text: &mut Text, n: usize)
+    requires { (n ≤ 99999) × (array_string_len text.old + 5 ≤ 4096) }
+    ensures bytes { text.new.bytes ≡ text.old.bytes ++ written_number n }
+    ensures five { array_string_len text.new ≤ array_string_len text.old + 5 }
+    ensures four { n ≤ 9999 → array_string_len text.new ≤ array_string_len text.old + 4 }
 {
-    let first = write_number(a, text, at);
-    let end = write_field(b, text, first);
-    text[end] = b'\n';
-    end + 1
+    text.push_str(Buffer::new().format(n));
 }
 
-// Writes numbers of at most four digits with a space before each; the place behind them.
-pub fn write_fields(numbers: &[u32], text: &mut [u8], at: usize) -> usize
-    requires { FourDigits numbers.now × (at + (5 * length numbers.now + 1) ≤ length text.old) }
-    ensures { WroteAt (written_numbers numbers.now) at text.old text.new result }
+// A space and a number of at most five digits.
+pub fn push_field(text: &mut Text, n: usize)
+    requires { (n ≤ 99999) × (array_string_len text.old + 6 ≤ 4096) }
+    ensures bytes { text.new.bytes ≡ text.old.bytes ++ (space ∷ written_number n) }
+    ensures five { array_string_len text.new ≤ array_string_len text.old + 6 }
+    ensures four { n ≤ 9999 → array_string_len text.new ≤ array_string_len text.old + 5 }
 {
-    let mut end = at;
-    let mut next = 0;
-    while next < numbers.len() {
-        let n = numbers[next];
-        next += 1;
-        end = write_field(n as usize, text, end);
-    }
-    end
+    text.push(' ');
+    push_number(text, n);
 }
 
-// Writes a word; the place behind it.
-pub fn write_word(word: &[u8], text: &mut [u8], at: usize) -> usize
-    requires { at + length word.now ≤ length text.old }
-    ensures { WroteAt word.now at text.old text.new result }
+// Numbers of at most four digits, a space before each.
+#[tactic(auto, using(crate::proofs::Written::fields_next), unfolding(job_line::specs::WrittenNumber::written_numbers))]
+pub fn push_fields(text: &mut Text, numbers: &[u32])
+    requires { FourDigits numbers.now × (array_string_len text.old + (5 * length numbers.now + 1) ≤ 4096) }
+    ensures bytes { text.new.bytes ≡ text.old.bytes ++ written_numbers numbers.now }
+    ensures room { array_string_len text.new ≤ array_string_len text.old + 5 * length numbers.now }
 {
-    let mut next = 0;
-    while next < word.len() {
-        let letter = next;
-        next += 1;
-        text[at + letter] = word[letter];
+    for n in numbers {
+        push_field(text, *n as usize);
     }
-    at + word.len()
+}
+
+// A line of two numbers of at most four digits.
+#[tactic(auto, unfolding(job_line::specs::WrittenNumber::written_numbers))]
+pub fn push_pair(text: &mut Text, a: usize, b: usize)
+    requires { (a ≤ 9999) × (b ≤ 9999) × (array_string_len text.old + 10 ≤ 4096) }
+    ensures bytes { text.new.bytes ≡ text.old.bytes ++ pair_line a b }
+    ensures room { array_string_len text.new ≤ array_string_len text.old + 10 }
+{
+    push_number(text, a);
+    push_field(text, b);
+    text.push('\n');
 }

@@ -1,70 +1,67 @@
 // The texts: of a refusal, and of a placing.
-ghost use Rattle.std.specs.Prelude.{◌+◌, ◌*◌, ◌≤◌, length};
+ghost use Rattle.std.specs.Prelude.{◌≡◌, ◌+◌, ◌*◌, ◌≤◌, ◌++◌, length};
+ghost use Rattle.arrayvec.specs.ArrayString.{array_string_len};
+ghost use Rattle.causes.specs.Cause.{number_of};
 ghost use Rattle.job_line.specs.Bytes.{bytes_of};
+ghost use Rattle.job_file.specs.Entries.{pane_ids_of};
 ghost use Rattle.report.specs.Text.{text_line, pane_lines, placing_text, refusal_text};
-ghost use Rattle.report.specs.Internal.Steps.{WroteAt, FourDigits, PaneAnswers};
+ghost use Rattle.report.specs.Internal.Steps.{FourDigits, PaneAnswers};
 
-use crate::line::{write_fields, write_pair, write_word};
-use crate::number::write_field;
+use crate::line::{Text, push_field, push_fields, push_pair};
+use causes::Refusal;
+use job_pane::Pane;
 
-// Writes the text of a refusal to the front of a buffer; how many bytes it has.
-pub fn write_refusal(number: u32, offset: usize, text: &mut [u8]) -> usize
-    requires { (number ≤ 99999) × (offset ≤ 99999) × (20 ≤ length text.old) }
-    ensures { WroteAt (refusal_text number offset) 0 text.old text.new result }
+// The text of a refusal.
+#[tactic(auto, unfolding(crate::specs::Text::refusal_text, job_line::specs::WrittenNumber::written_numbers))]
+pub fn refusal_text(refusal: Refusal) -> Text
+    requires { refusal.offset ≤ 99999 }
+    ensures { result.bytes ≡ refusal_text (number_of refusal.cause) refusal.offset }
 {
-    let first = write_word(b"refused", text, 0);
-    let second = write_field(number as usize, text, first);
-    let end = write_field(offset, text, second);
-    text[end] = b'\n';
-    end + 1
+    let mut text = Text::new();
+    text.push_str("refused");
+    push_field(&mut text, u32::from(refusal.cause) as usize);
+    push_field(&mut text, refusal.offset);
+    text.push('\n');
+    text
 }
 
-// Writes the text of a placing to the front of a buffer; how many bytes it has. There is an answer for the id of each pane.
-pub fn write_placing(
-    ids: &[u32],
-    answers: &[u32],
-    placed: usize,
-    group: &[u32],
-    text: &mut [u8],
-) -> usize
-    requires { PaneAnswers ids.now answers.now × FourDigits group.now × (placed ≤ 9999) ×
-        (10 * length answers.now + 10 + (5 + (5 * length group.now + 1)) ≤ length text.old) }
-    ensures { WroteAt (placing_text ids.now answers.now (length answers.now) placed group.now)
-        0 text.old text.new result }
+// The text of a placing, with an answer for each pane.
+#[tactic(auto, unfolding(crate::specs::Text::placing_text))]
+pub fn placing_text(panes: &[Pane], answers: &[u32], placed: usize, group: &[u32]) -> Text
+    requires { PaneAnswers (pane_ids_of panes.now) answers.now × FourDigits group.now × (placed ≤ 9999) ×
+        (length group.now ≤ 256) }
+    ensures { result.bytes
+        ≡ placing_text (pane_ids_of panes.now) answers.now (length answers.now) placed group.now }
 {
     let wanted = answers.len();
-    let counts = write_panes(ids, answers, text);
-    let end = write_pair(placed, wanted, text, counts);
-    if placed == wanted {
-        return end;
+    let mut text = Text::new();
+    push_panes(&mut text, panes, answers);
+    push_pair(&mut text, placed, wanted);
+    if placed != wanted {
+        push_short(&mut text, group);
     }
-    write_short(group, text, end)
+    text
 }
 
-// Writes a line for each pane; how many bytes they have.
-fn write_panes(ids: &[u32], answers: &[u32], text: &mut [u8]) -> usize
-    requires { PaneAnswers ids.now answers.now × (10 * length answers.now ≤ length text.old) }
-    ensures { WroteAt (pane_lines ids.now answers.now (length answers.now))
-        0 text.old text.new result }
+// A line for each pane.
+#[tactic(auto, unfolding(crate::specs::Text::pane_lines))]
+fn push_panes(text: &mut Text, panes: &[Pane], answers: &[u32])
+    requires { PaneAnswers (pane_ids_of panes.now) answers.now × (array_string_len text.old + 10 * length answers.now ≤ 4096) }
+    ensures bytes { text.new.bytes
+        ≡ text.old.bytes ++ pane_lines (pane_ids_of panes.now) answers.now (length answers.now) }
+    ensures room { array_string_len text.new ≤ array_string_len text.old + 10 * length answers.now }
 {
-    let mut end = 0;
-    let mut next = 0;
-    while next < answers.len() {
-        let pane = ids[next];
-        let glass = answers[next];
-        next += 1;
-        end = write_pair(pane as usize, glass as usize, text, end);
+    for (pane, glass) in panes.iter().zip(answers) {
+        push_pair(text, pane.id as usize, *glass as usize);
     }
-    end
 }
 
-// Writes the last line, the word `short` and the ids of a group; the place behind it.
-fn write_short(group: &[u32], text: &mut [u8], at: usize) -> usize
-    requires { FourDigits group.now × (at + (5 + (5 * length group.now + 1)) ≤ length text.old) }
-    ensures { WroteAt (text_line (bytes_of "short") group.now) at text.old text.new result }
+// The last line: the word `short` and the ids of a group.
+fn push_short(text: &mut Text, group: &[u32])
+    requires { FourDigits group.now × (array_string_len text.old + (5 + (5 * length group.now + 1)) ≤ 4096) }
+    ensures bytes { text.new.bytes ≡ text.old.bytes ++ text_line (bytes_of "short") group.now }
 {
-    let first = write_word(b"short", text, at);
-    let end = write_fields(group, text, first);
-    text[end] = b'\n';
-    end + 1
+    text.push_str("short");
+    push_fields(text, group);
+    text.push('\n');
 }

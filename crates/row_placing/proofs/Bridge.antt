@@ -16,17 +16,18 @@ use native.Mathlib.Omega.{arith}
 use lib.Dec.{ltb, eqb}
 use lib.ListN.{length, get_or, get_or-eq_default}
 use borrow.Author.Tests.{ltb-true, lt-ltb, ne_eqb}
+use Rattle.std.specs.Prelude.{Option}
 use Rattle.basics.proofs.Tests.{both_true}
 use Rattle.ranges.proofs.Counts.{count_same}
 use Rattle.glass_set.specs.Internal.Member.{has}
 use Rattle.matching.specs.Internal.Matching.{given, served, Greatest}
 use Rattle.matching.specs.Internal.Rows.{task_of, way_of}
 use Rattle.row_placing.specs.Schedule.{Schedule}
-use Rattle.row_placing.specs.Internal.Entries.{entries_at}
+use Rattle.row_placing.specs.Internal.Entries.{entries_held}
 use Rattle.row_placing.specs.Placing.{times, nonzero, PassingId, Placing, NoneToSpare}
 use Rattle.row_placing.specs.Internal.Holding.{PassingNumber}
 use Rattle.row_placing.specs.Internal.Stated.{Stated}
-use Rattle.row_placing.proofs.Entries.{entries_long, entry_at}
+use Rattle.row_placing.proofs.Entries.{held_long, held_at}
 use Rattle.row_placing.proofs.Ids.{times_count, nonzero_count, nonzero_le}
 use Rattle.row_placing.proofs.Numbers.{glass_test}
 
@@ -44,48 +45,48 @@ module _
         b.rows_are p l g (omega (arith, b.known.few)) ∙ rw (lt-ltb g (length s.glass_ids) k, pass)
 
     module _
-        (held : List ℕ)
+        (held : List (Option ℕ))
         (tight : ℕ)
         (long : length held ≡ length s.pane_ids)
         (best : Greatest (task_of rows sheets64) (way_of held) (has tight))
       where
-        pub each_held : (p : ℕ) → p < length s.pane_ids → (get_or held p 0 ≡ 64) ⊎ PassingNumber s p (get_or held p 0)
+        pub each_held : (p : ℕ) → p < length s.pane_ids → (way_of held p ≡ 64) ⊎ PassingNumber s p (way_of held p)
         each_held p l =
             let here : p < length rows = omega (arith, b.a_row_each) in
             go (best.matching.passing p here) (eq-or-lt_of_le (best.or_none p here))
           where
             go :
-                (get_or held p 0 < 64 → has (get_or rows p 0) (get_or held p 0) ≡ true) →
-                (get_or held p 0 ≡ 64) ⊎ (get_or held p 0 < 64) → (get_or held p 0 ≡ 64) ⊎ PassingNumber s p (get_or held p 0)
+                (way_of held p < 64 → has (get_or rows p 0) (way_of held p) ≡ true) →
+                (way_of held p ≡ 64) ⊎ (way_of held p < 64) → (way_of held p ≡ 64) ⊎ PassingNumber s p (way_of held p)
             go set (inl none) = inl none
-            go set (inr below) = inr (glass_of_bit p (get_or held p 0) l below (set below))
+            go set (inr below) = inr (glass_of_bit p (way_of held p) l below (set below))
 
         abbrev ids : List ℕ
-        ids = entries_at s.glass_ids held
+        ids = entries_held s.glass_ids held
 
         rows_ids : length ids ≡ length rows
-        rows_ids = entries_long s.glass_ids held ∙ long ∙ sym b.a_row_each
+        rows_ids = held_long s.glass_ids held ∙ long ∙ sym b.a_row_each
 
-        id_at : (p : ℕ) → p < length s.pane_ids → get_or ids p 0 ≡ get_or s.glass_ids (get_or held p 0) 0
-        id_at p l = entry_at s.glass_ids held p (omega arith)
+        id_at : (p : ℕ) → p < length s.pane_ids → get_or ids p 0 ≡ get_or s.glass_ids (way_of held p) 0
+        id_at p l = held_at s.glass_ids held p b.known.few (omega arith)
 
         -- An entry is 0 where no glass is held, and not 0 where one is.
-        zero_at : (p : ℕ) → p < length s.pane_ids → get_or held p 0 ≡ 64 → get_or ids p 0 ≡ 0
+        zero_at : (p : ℕ) → p < length s.pane_ids → way_of held p ≡ 64 → get_or ids p 0 ≡ 0
         zero_at p l none = id_at p l ∙ get_or-eq_default s.glass_ids 0 (omega (arith, none, b.known.few))
 
-        nonzero_at : (p : ℕ) → p < length s.pane_ids → PassingNumber s p (get_or held p 0) → get_or ids p 0 ≡ 0 → ⊥
-        nonzero_at p l is none = omega (arith, none, id_at p l, b.known.id_low (get_or held p 0) is.within)
+        nonzero_at : (p : ℕ) → p < length s.pane_ids → PassingNumber s p (way_of held p) → get_or ids p 0 ≡ 0 → ⊥
+        nonzero_at p l is none = omega (arith, none, id_at p l, b.known.id_low (way_of held p) is.within)
 
-        nonzero_held : (p : ℕ) → p < length s.pane_ids → not (eqb (get_or ids p 0) 0) ≡ ltb (get_or held p 0) 64
+        nonzero_held : (p : ℕ) → p < length s.pane_ids → not (eqb (get_or ids p 0) 0) ≡ ltb (way_of held p) 64
         nonzero_held p l = go (each_held p l)
           where
             go :
-                (get_or held p 0 ≡ 64) ⊎ PassingNumber s p (get_or held p 0) →
-                not (eqb (get_or ids p 0) 0) ≡ ltb (get_or held p 0) 64
+                (way_of held p ≡ 64) ⊎ PassingNumber s p (way_of held p) →
+                not (eqb (get_or ids p 0) 0) ≡ ltb (way_of held p) 64
             go (inl none) = rw (zero_at p l none, none)
             go (inr is) =
-                let below : get_or held p 0 < 64 = omega (arith, is.within, b.known.few) in
-                rw (ne_eqb (get_or ids p 0) 0 (nonzero_at p l is), lt-ltb (get_or held p 0) 64 below)
+                let below : way_of held p < 64 = omega (arith, is.within, b.known.few) in
+                rw (ne_eqb (get_or ids p 0) 0 (nonzero_at p l is), lt-ltb (way_of held p) 64 below)
 
         -- The id of a glass stands in the list as often as the glass is given.
         times_given :
@@ -95,11 +96,11 @@ module _
             times_count ids (length rows) rows_ids (get_or s.glass_ids j 0)
             ∙ count_same
             (λ p. eqb (get_or ids p 0) (get_or s.glass_ids j 0))
-            (λ p. eqb (get_or held p 0) j)
+            (λ p. eqb (way_of held p) j)
             (length rows)
-            (λ p k. rw (id_at p (omega (arith, b.a_row_each))) (glass_test b.known (get_or held p 0) j l))
+            (λ p k. rw (id_at p (omega (arith, b.a_row_each))) (glass_test b.known (way_of held p) j l))
 
-        pub is_placing : Placing s (entries_at s.glass_ids held)
+        pub is_placing : Placing s (entries_held s.glass_ids held)
         is_placing = record {
           one_each = rows_ids ∙ b.a_row_each;
           passing = λ i l. go i l (each_held i l);
@@ -114,29 +115,29 @@ module _
         }
           where
             go :
-                (i : ℕ) → i < length s.pane_ids → (get_or held i 0 ≡ 64) ⊎ PassingNumber s i (get_or held i 0) →
+                (i : ℕ) → i < length s.pane_ids → (way_of held i ≡ 64) ⊎ PassingNumber s i (way_of held i) →
                 (get_or ids i 0 ≡ 0) ⊎ PassingId s i (get_or ids i 0)
             go i l (inl none) = inl (zero_at i l none)
             go i l (inr is) =
-                inr (record { place = get_or held i 0; within = is.within; is_id = sym (id_at i l); passing = is.passing })
+                inr (record { place = way_of held i; within = is.within; is_id = sym (id_at i l); passing = is.passing })
 
-        pub placed_served : nonzero (entries_at s.glass_ids held) ≡ served (task_of rows sheets64) (way_of held)
+        pub placed_served : nonzero (entries_held s.glass_ids held) ≡ served (task_of rows sheets64) (way_of held)
         placed_served =
             nonzero_count ids (length rows) rows_ids
             ∙ count_same
             (λ p. not (eqb (get_or ids p 0) 0))
-            (λ p. ltb (get_or held p 0) 64)
+            (λ p. ltb (way_of held p) 64)
             (length rows)
             (λ p k. nonzero_held p (omega (arith, b.a_row_each)))
 
-        pub placed_le : nonzero (entries_at s.glass_ids held) ≤ length s.pane_ids
+        pub placed_le : nonzero (entries_held s.glass_ids held) ≤ length s.pane_ids
         placed_le = nonzero_le ids (length s.pane_ids) is_placing.one_each
 
-        pub none_spare : NoneToSpare s (entries_at s.glass_ids held)
+        pub none_spare : NoneToSpare s (entries_held s.glass_ids held)
         none_spare i l zero j k pass = go (each_held i l)
           where
             go :
-                (get_or held i 0 ≡ 64) ⊎ PassingNumber s i (get_or held i 0) →
+                (way_of held i ≡ 64) ⊎ PassingNumber s i (way_of held i) →
                 times (get_or s.glass_ids j 0) ids ≡ get_or s.sheets j 0
             go (inl none) =
                 times_given j k

@@ -1,13 +1,15 @@
 -- The entries of a list at some places, as a map over the places gives them.
 --     entries_long    as many entries as places
 --     entry_at        each of them
---     entries_same    of two lists that agree at the places
-use Prim.Native.Nat.{ℕ, zero, suc, ◌<◌}
-use mathlib.Core.Path.{◌≡◌, refl}
+--     held_long, held_at, held_same    the same at places that are held: of two lists that agree there
+use Prim.Native.Nat.{ℕ, zero, suc, ◌≤◌, ◌<◌}
+use mathlib.Core.Path.{◌≡◌, refl, sym, ◌∙◌}
 use mathlib.Core.List.{List, [], ◌∷◌}
 use native.Mathlib.Omega.{arith}
-use lib.ListN.{length, get_or, length-map}
-use Rattle.row_placing.specs.Internal.Entries.{entries_at}
+use lib.ListN.{length, get_or, length-map, get_or-eq_default}
+use Rattle.std.specs.Prelude.{Option, Some, None}
+use Rattle.matching.specs.Internal.Rows.{number_held, way_of}
+use Rattle.row_placing.specs.Internal.Entries.{entries_at, entry_held, entries_held}
 
 pub entries_long : (xs places : List ℕ) → length (entries_at xs places) ≡ length places
 entries_long xs places = length-map places (λ i. get_or xs i 0)
@@ -18,9 +20,28 @@ entry_at xs [] p l = absurd (omega arith)
 entry_at xs (i ∷ is) zero l = refl
 entry_at xs (i ∷ is) (suc p) l = entry_at xs is p (omega arith)
 
-pub entries_same :
-    (xs ys places : List ℕ) →
-    ((p : ℕ) → p < length places → get_or xs (get_or places p 0) 0 ≡ get_or ys (get_or places p 0) 0) →
-    entries_at xs places ≡ entries_at ys places
-entries_same xs ys [] h = refl
-entries_same xs ys (i ∷ is) h = rw (h 0 (omega arith), entries_same xs ys is (λ p l. h (suc p) (omega arith)))
+pub held_long : (xs : List ℕ) (held : List (Option ℕ)) → length (entries_held xs held) ≡ length held
+held_long xs held = length-map held (entry_held xs)
+
+-- A list of at most 64 entries has none at the number that stands for no place.
+entry_number : (xs : List ℕ) (place : Option ℕ) → length xs ≤ 64 → entry_held xs place ≡ get_or xs (number_held place) 0
+entry_number xs None few = sym (get_or-eq_default xs 0 few)
+entry_number xs (Some place) few = refl
+
+pub held_at :
+    (xs : List ℕ) (held : List (Option ℕ)) (p : ℕ) → length xs ≤ 64 → p < length held →
+    get_or (entries_held xs held) p 0 ≡ get_or xs (way_of held p) 0
+held_at xs [] p few l = absurd (omega arith)
+held_at xs (place ∷ held) zero few l = entry_number xs place few
+held_at xs (place ∷ held) (suc p) few l = held_at xs held p few (omega arith)
+
+pub held_same :
+    (xs ys : List ℕ) (held : List (Option ℕ)) → length xs ≤ 64 → length ys ≤ 64 →
+    ((p : ℕ) → p < length held → get_or xs (way_of held p) 0 ≡ get_or ys (way_of held p) 0) →
+    entries_held xs held ≡ entries_held ys held
+held_same xs ys [] few less h = refl
+held_same xs ys (place ∷ held) few less h =
+    rw (
+      entry_number xs place few ∙ h 0 (omega arith) ∙ sym (entry_number ys place less),
+      held_same xs ys held few less (λ p l. h (suc p) (omega arith)),
+    )

@@ -11,7 +11,7 @@ use native.Mathlib.Omega.{arith}
 use lib.Dec.{eqb}
 use lib.ListN.{length, get_or, get_or-eq_default}
 use borrow.Author.Tests.{eqb-true, eq-eqb, ne_eqb}
-use Rattle.std.specs.Prelude.{if◌then◌else◌}
+use Rattle.std.specs.Prelude.{Option, if◌then◌else◌}
 use Rattle.ids.specs.Ids.{Distinct}
 use Rattle.rising_ids.specs.Rises.{Rises}
 use Rattle.rising_ids.specs.Internal.Listing.{rising, Listed}
@@ -20,7 +20,7 @@ use Rattle.glass_set.specs.Internal.Member.{has}
 use Rattle.matching.specs.Internal.Matching.{Greatest}
 use Rattle.matching.specs.Internal.Rows.{task_of, way_of}
 use Rattle.row_placing.specs.Schedule.{Schedule}
-use Rattle.row_placing.specs.Internal.Entries.{entries_at}
+use Rattle.row_placing.specs.Internal.Entries.{entries_held}
 use Rattle.row_placing.specs.Placing.{nonzero, Placing}
 use Rattle.row_placing.specs.ShortGroup.{PaneGroup, lacking, ShortGroup}
 use Rattle.row_placing.specs.Glazing.{Glazing}
@@ -31,7 +31,7 @@ use Rattle.basics.specs.Internal.Arrays.{written}
 use Rattle.row_placing.specs.Internal.Promise.{RowsGlazed}
 use Rattle.row_placing.specs.Internal.Steps.{Answered, confined_ids, group_due}
 use Rattle.row_placing.specs.declared.PlaceCounts.{PlaceCounts}
-use Rattle.row_placing.proofs.Entries.{entries_long, entries_same}
+use Rattle.row_placing.proofs.Entries.{held_long, held_same}
 use Rattle.row_placing.proofs.Ids.{nonzero_le}
 use Rattle.basics.proofs.Lent.{wrote}
 use Rattle.row_placing.proofs.Bridge.{each_held, is_placing, none_spare}
@@ -41,7 +41,8 @@ use Rattle.row_placing.proofs.PlacingLaws.{placing_laws}
 use Rattle.row_placing.proofs.Writes.{group_few}
 
 module _
-    (rows sheets64 glass_ids pane_ids held : List ℕ)
+    (rows sheets64 glass_ids pane_ids : List ℕ)
+    (held : List (Option ℕ))
     (tight : ℕ)
     (long : length held ≡ length rows)
     (sized : length glass_ids ≡ 64)
@@ -54,12 +55,12 @@ module _
     abbrev counted : ℕ → PlaceCounts
     counted count = record { wanted = length rows; placed = placed; group = count }
 
-    answers_are : Wrote (entries_at glass_ids held) answers
-    answers_are = wrote (entries_at glass_ids held) answers answered.answers_are
+    answers_are : Wrote (entries_held glass_ids held) answers
+    answers_are = wrote (entries_held glass_ids held) answers answered.answers_are
 
     few_placed : placed ≤ length rows
     few_placed =
-        let most = nonzero_le (entries_at glass_ids held) (length rows) (entries_long glass_ids held ∙ long) in
+        let most = nonzero_le (entries_held glass_ids held) (length rows) (held_long glass_ids held ∙ long) in
         omega (arith, answered.placed_is)
 
     module _ (s : Schedule) (b : Stated s rows sheets64 glass_ids pane_ids) where
@@ -67,20 +68,20 @@ module _
       as_many = long ∙ b.a_row_each
 
       -- The ids of the glasses held are the schedule's: each is one of its glasses.
-      same_ids : entries_at glass_ids held ≡ entries_at s.glass_ids held
+      same_ids : entries_held glass_ids held ≡ entries_held s.glass_ids held
       same_ids =
-          entries_same glass_ids s.glass_ids held
+          held_same glass_ids s.glass_ids held (omega arith) b.known.few
           (λ p l. go p (each_held b held tight as_many best p (omega (arith, as_many))))
         where
           go :
-              (p : ℕ) → (get_or held p 0 ≡ 64) ⊎ PassingNumber s p (get_or held p 0) →
-              get_or glass_ids (get_or held p 0) 0 ≡ get_or s.glass_ids (get_or held p 0) 0
+              (p : ℕ) → (way_of held p ≡ 64) ⊎ PassingNumber s p (way_of held p) →
+              get_or glass_ids (way_of held p) 0 ≡ get_or s.glass_ids (way_of held p) 0
           go p (inl none) =
               get_or-eq_default glass_ids 0 (omega (arith, none))
               ∙ sym (get_or-eq_default s.glass_ids 0 (omega (arith, none, b.known.few)))
-          go p (inr is) = b.glass_ids_are (get_or held p 0) is.within
+          go p (inr is) = b.glass_ids_are (way_of held p) is.within
 
-      placed_is : placed ≡ nonzero (entries_at s.glass_ids held)
+      placed_is : placed ≡ nonzero (entries_held s.glass_ids held)
       placed_is = answered.placed_is ∙ ap nonzero same_ids
 
       -- A group that lacks a sheet for each pane left over is what the placing is to give, if it is empty where there is none.
@@ -103,7 +104,7 @@ module _
                 short = omega (arith, whole, few_placed, left, b.a_row_each);
               }
 
-          glazing : Glazing s (entries_at s.glass_ids held) listed placed
+          glazing : Glazing s (entries_held s.glass_ids held) listed placed
           glazing = record {
             placing = is_placing b held tight as_many best;
             none_to_spare = none_spare b held tight as_many best;
@@ -111,7 +112,7 @@ module _
             all_placed =
                 λ e.
                 record {
-                  ids = entries_at s.glass_ids held;
+                  ids = entries_held s.glass_ids held;
                   placing = is_placing b held tight as_many best;
                   every_pane = sym placed_is ∙ e;
                 };
@@ -125,10 +126,10 @@ module _
             no_more_lacking =
                 λ other is.
                 rw placed_is
-                ((placing_laws s).lacking_most (entries_at s.glass_ids held) other (is_placing b held tight as_many best) is);
+                ((placing_laws s).lacking_most (entries_held s.glass_ids held) other (is_placing b held tight as_many best) is);
           }
 
-      holding : Holding s held (entries_at s.glass_ids held)
+      holding : Holding s held (entries_held s.glass_ids held)
       holding = record { one_each = as_many; each = each_held b held tight as_many best; ids_are = refl }
 
     -- What the group list is to get where all panes are placed, and where one is left over; at most an id for each pane.
@@ -185,7 +186,7 @@ module _
           λ s b.
           record {
             glazed = record {
-              ids = entries_at s.glass_ids held;
+              ids = entries_held s.glass_ids held;
               group_ids = due;
               glazing = glazing s b due due_none due_rises (due_panes s b) (due_whole s b);
               wanted_is = b.a_row_each;

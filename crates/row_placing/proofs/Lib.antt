@@ -18,6 +18,5 @@ pub mod SomePanes
 pub mod PlacingLaws
 -- How many sheets are missing: no fewer, and no more.
 pub mod MoreSheets
-pub mod Values
 pub mod NewSheets
 pub mod MissingSheets

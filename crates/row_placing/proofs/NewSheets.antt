@@ -5,12 +5,14 @@ use Prim.Native.Nat.{ℕ, ◌+◌, ◌-◌, ◌≤◌, ◌<◌}
 use mathlib.Core.Path.{◌≡◌, refl, sym, ◌∙◌}
 use mathlib.Core.Logic.{◌⊎◌, inl, inr}
 use mathlib.Core.Bool.{Bool, true, false, ◌&&◌}
-use mathlib.Core.List.{List}
+use mathlib.Core.List.{List, map}
 use native.Mathlib.Omega.{arith}
 use lib.Dec.{ltb, eqb}
 use lib.ListN.{length, get_or}
 use borrow.Author.Tests.{lt-ltb, le-ltb, eqb-true, eqb-false, eq-eqb, ne_eqb}
 use Rattle.std.specs.Prelude.{if◌then◌else◌}
+use Rattle.std.specs.List.{range_with_len}
+use Rattle.std.proofs.lemmas.List.FromFn.{length-map-range_with_len, get_or-map-range_with_len}
 use Rattle.ids.proofs.Distinct.{distinct_at}
 use Rattle.ranges.specs.Ranges.{sum_to}
 use Rattle.ranges.specs.Internal.Counts.{one, count_to}
@@ -21,7 +23,6 @@ use Rattle.row_placing.specs.Placing.{times, nonzero, PassingId, Placing}
 use Rattle.row_placing.specs.MissingSheets.{with_sheets, EnoughWith, GlassIds, PassingChoice, chosen}
 use Rattle.row_placing.proofs.Ids.{times_count, nonzero_count}
 use Rattle.row_placing.proofs.Numbers.{same_number}
-use Rattle.row_placing.proofs.Values.{values_to, values_long, values_at}
 
 module _ {s : Schedule} (ids : List ℕ) (placing : Placing s ids) (choice : ℕ → ℕ) (passing : PassingChoice s ids choice) where
   abbrev entry : ℕ → ℕ
@@ -74,19 +75,20 @@ module _ {s : Schedule} (ids : List ℕ) (placing : Placing s ids) (choice : ℕ
     answer_at i = if eqb (entry i) 0 then get_or s.glass_ids (choice i) 0 else entry i
 
     abbrev sheets : List ℕ
-    sheets = values_to sheets_at (length s.glass_ids)
+    sheets = map sheets_at (range_with_len 0 (length s.glass_ids))
 
     abbrev answers : List ℕ
-    answers = values_to answer_at (length s.pane_ids)
+    answers = map answer_at (range_with_len 0 (length s.pane_ids))
 
     abbrev bought : Schedule
     bought = with_sheets s sheets
 
     answer_left : (i : ℕ) → i < length s.pane_ids → entry i ≡ 0 → get_or answers i 0 ≡ get_or s.glass_ids (choice i) 0
-    answer_left i l none = values_at answer_at (length s.pane_ids) i l ∙ rw (eq-eqb (entry i) 0 none)
+    answer_left i l none = get_or-map-range_with_len answer_at 0 (length s.pane_ids) i i 0 l (omega arith) ∙ rw (eq-eqb (entry i) 0 none)
 
     answer_placed : (i : ℕ) → i < length s.pane_ids → (entry i ≡ 0 → ⊥) → get_or answers i 0 ≡ entry i
-    answer_placed i l placed = values_at answer_at (length s.pane_ids) i l ∙ rw (ne_eqb (entry i) 0 placed)
+    answer_placed i l placed =
+        get_or-map-range_with_len answer_at 0 (length s.pane_ids) i i 0 l (omega arith) ∙ rw (ne_eqb (entry i) 0 placed)
 
     passing_glass : (i : ℕ) → i < length s.pane_ids → PassingId bought i (get_or answers i 0)
     passing_glass i l = go (eqb (entry i) 0) refl (placing.passing i l)
@@ -134,8 +136,8 @@ module _ {s : Schedule} (ids : List ℕ) (placing : Placing s ids) (choice : ℕ
       in_stock =
           omega (
             arith,
-            values_at sheets_at (length s.glass_ids) j k,
-            times_count answers (length s.pane_ids) (values_long answer_at (length s.pane_ids)) id,
+            get_or-map-range_with_len sheets_at 0 (length s.glass_ids) j j 0 k (omega arith),
+            times_count answers (length s.pane_ids) (length-map-range_with_len answer_at 0 (length s.pane_ids)) id,
             times_count ids (length s.pane_ids) placing.one_each id,
             placing.in_stock j k,
             sum_add (λ i. one (eqb (entry i) id)) (λ i. one (is_new i)) (length s.pane_ids),
@@ -154,18 +156,18 @@ module _ {s : Schedule} (ids : List ℕ) (placing : Placing s ids) (choice : ℕ
     pub sheets_enough : EnoughWith s (chosen s ids choice)
     sheets_enough = record {
       sheets = sheets;
-      sheets_are = λ g k. values_at sheets_at (length s.glass_ids) g k;
+      sheets_are = λ g k. get_or-map-range_with_len sheets_at 0 (length s.glass_ids) g g 0 k (omega arith);
       full = record {
         ids = answers;
         placing = record {
-          one_each = values_long answer_at (length s.pane_ids);
+          one_each = length-map-range_with_len answer_at 0 (length s.pane_ids);
           passing = λ i l. inr (passing_glass i l);
           in_stock = in_stock;
         };
         every_pane =
             omega (
               arith,
-              nonzero_count answers (length s.pane_ids) (values_long answer_at (length s.pane_ids)),
+              nonzero_count answers (length s.pane_ids) (length-map-range_with_len answer_at 0 (length s.pane_ids)),
               count_not (λ i. eqb (get_or answers i 0) 0) (length s.pane_ids),
               count_none (λ i. eqb (get_or answers i 0) 0) (length s.pane_ids) none_zero,
             );

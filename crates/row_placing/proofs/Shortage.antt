@@ -10,7 +10,7 @@ use mathlib.Core.List.{List}
 use native.Mathlib.Omega.{arith}
 use native.Mathlib.Nat.{le_trans}
 use lib.ListN.{length, get_or}
-use Rattle.std.specs.Prelude.{if◌then◌else◌}
+use Rattle.std.specs.Prelude.{Option, if◌then◌else◌}
 use Rattle.basics.proofs.Tests.{both_true}
 use Rattle.ids.specs.Ids.{among}
 use Rattle.rising_ids.proofs.Listing.{list_length}
@@ -22,7 +22,7 @@ use Rattle.glass_set.proofs.Members.{within_at}
 use Rattle.matching.specs.Internal.Matching.{sheets_of, Greatest}
 use Rattle.matching.specs.Internal.Rows.{task_of, way_of}
 use Rattle.row_placing.specs.Schedule.{Schedule}
-use Rattle.row_placing.specs.Internal.Entries.{entries_at}
+use Rattle.row_placing.specs.Internal.Entries.{entries_held}
 use Rattle.row_placing.specs.Placing.{nonzero}
 use Rattle.row_placing.specs.ShortGroup.{suits, sheets_for, PaneId, PaneGroup, lacking}
 use Rattle.row_placing.specs.Internal.Stated.{Stated}
@@ -89,13 +89,13 @@ module _
           }
 
       module _
-          (held : List ℕ)
+          (held : List (Option ℕ))
           (long : length held ≡ length s.pane_ids)
           (best : Greatest (task_of rows sheets64) (way_of held) (has tight))
         where
           -- The group has more panes than the tight glasses have sheets, by the panes that are not served.
           tight_short :
-              length group + nonzero (entries_at s.glass_ids held)
+              length group + nonzero (entries_held s.glass_ids held)
               ≡ sheets_of (task_of rows sheets64) (has tight) + length s.pane_ids
           tight_short =
               omega (
@@ -107,12 +107,12 @@ module _
               )
 
           pub tight_whole :
-              lacking s (confined_ids pane_ids rows tight) ≡ length s.pane_ids - nonzero (entries_at s.glass_ids held)
+              lacking s (confined_ids pane_ids rows tight) ≡ length s.pane_ids - nonzero (entries_held s.glass_ids held)
           tight_whole =
               omega (
                 arith,
                 tight_short,
                 sheets_fewer,
                 placed_le b held tight long best,
-                group_bound s (entries_at s.glass_ids held) (is_placing b held tight long best) group tight_panes,
+                group_bound s (entries_held s.glass_ids held) (is_placing b held tight long best) group tight_panes,
               )

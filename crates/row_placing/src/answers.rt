@@ -1,34 +1,29 @@
 // The answers: what is written for each pane.
-ghost use Rattle.std.specs.Prelude.{◌≡◌, ◌≤◌, eqb, length, if◌then◌else◌};
+ghost use Rattle.std.specs.Prelude.{◌≡◌, ◌≤◌, length};
 ghost use Rattle.basics.specs.Lent.{lent};
+ghost use Rattle.row_placing.specs.Internal.Entries.{entry_held};
 ghost use Rattle.row_placing.specs.Internal.Steps.{Answered};
 
 // Writes the id of each pane's glass, or 0 where `held` has no number of one, and counts the ids that are not 0.
-pub fn write_answers(held: &[usize], ids: &[u32], answers: &mut [u32]) -> usize
+pub fn write_answers(held: &[Option<usize>], ids: &[u32], answers: &mut [u32]) -> usize
     requires { length held.now ≤ length answers.old }
     ensures { Answered ids.now held.now
         (lent answers.old answers.new) result }
 {
     let mut placed = 0;
-    let mut next = 0;
-    while next < held.len() {
-        let pane = next;
-        next += 1;
-        let number = held[pane];
-        if number < ids.len() {
-            let id = ids[number];
-            answers[pane] = id;
-            placed += one_unless_zero(id);
-        } else {
-            answers[pane] = 0;
-        }
+    for (pane, number) in held.iter().enumerate() {
+        let id = id_held(ids, *number);
+        answers[pane] = id;
+        placed += usize::from(id != 0);
     }
     placed
 }
 
-// 1, or 0 for an id of 0.
-fn one_unless_zero(id: u32) -> usize
-    ensures { result ≡ (if eqb id 0 then 0 else 1) }
+// The id of the glass that a pane holds, or 0 where it holds none.
+fn id_held(ids: &[u32], number: Option<usize>) -> u32
+    ensures { result ≡ entry_held ids.now number }
 {
-    if id == 0 { 0 } else { 1 }
+    number
+        .and_then(|place| ids.get(place).copied())
+        .unwrap_or(0)
 }

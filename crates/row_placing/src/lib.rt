@@ -24,13 +24,14 @@ pub struct PlaceCounts {
 }
 
 // Writes the id of a glass, or 0, for each pane, and the ids of a short group, from the lowest up, where a pane is left with 0.
-// `held` gets the number of each pane's glass, 64 for none. It asks for no more than lists that are long enough.
+// `held` gets the number of each pane's glass. It asks for no more than lists that are long enough. The lists stay apart: the search
+// reads the rows and the sheets alone, the answers only ids of glasses, and a list of pairs would be taken apart again for them.
 pub fn place_rows(
     rows: &[u64],
     sheets: &[u32; 64],
     glass_ids: &[u32; 64],
     pane_ids: &[u32],
-    held: &mut [usize],
+    held: &mut [Option<usize>],
     answers: &mut [u32],
     group: &mut [u32],
 ) -> PlaceCounts
@@ -43,17 +44,15 @@ pub fn place_rows(
     let tight = match_panes(rows, *sheets, held);
     let placed = write_answers(held, glass_ids, answers);
     let wanted = rows.len();
-    if placed == wanted {
-        return PlaceCounts {
-            wanted,
-            placed,
-            group: 0,
-        };
-    }
-    let count = write_group(rows, tight, pane_ids, group);
+    let full = placed == wanted;
+    let group = if full {
+        0
+    } else {
+        write_group(rows, tight, pane_ids, group)
+    };
     PlaceCounts {
         wanted,
         placed,
-        group: count,
+        group,
     }
 }

@@ -13,7 +13,9 @@ use Rattle.ranges.specs.Internal.Counts.{all_to}
 use Rattle.ranges.proofs.All.{all_at}
 use Rattle.span_table.specs.Spans.{spans, table_number, load_number, thickness_number}
 use Rattle.span_table.specs.SpanRule.{SpanRule}
+use Rattle.span_table.specs.Columns.{place}
 use Rattle.span_table.proofs.Rows.{table_high, load_high, thickness_high, nominal_is}
+use Rattle.span_table.specs.declared.Column.{Column}
 
 abbrev entry : ℕ → ℕ → ℕ → ℕ → ℕ
 entry table load thickness column = get_or (get_or spans (12 * table + (4 * load + thickness)) []) column 0
@@ -46,26 +48,29 @@ at_entries table load thin thick column later t l i j c d thicker earlier =
     let of_later = all_at (ordered table load thin thick column) 4 of_column later d in
     leb-true _ _ (rw (le-leb thin thick thicker, le-leb column later earlier) at of_later)
 
+place_high : (column : Column) → place column < 4
+place_high column = grind arith
+
 pub span_rule : (kind load : ℕ) → SpanRule kind load
 span_rule kind load = record {
-  with_thickness = λ thin thick column n m thicker within.
-      at_entries (table_number kind) (load_number load) (thickness_number thin) (thickness_number thick) column column
+  with_thickness = λ thin thick column n m thicker.
+      at_entries (table_number kind) (load_number load) (thickness_number thin) (thickness_number thick) (place column) (place column)
       (omega (arith, table_high kind))
       (omega (arith, load_high load))
       (omega (arith, thickness_high thin))
       (omega (arith, thickness_high thick))
-      within
-      within
+      (place_high column)
+      (place_high column)
       (omega (arith, nominal_is thin n, nominal_is thick m))
       (omega arith);
-  along_columns = λ thick column later earlier within.
-      at_entries (table_number kind) (load_number load) (thickness_number thick) (thickness_number thick) column later
+  along_columns = λ thick column later earlier.
+      at_entries (table_number kind) (load_number load) (thickness_number thick) (thickness_number thick) (place column) (place later)
       (omega (arith, table_high kind))
       (omega (arith, load_high load))
       (omega (arith, thickness_high thick))
       (omega (arith, thickness_high thick))
-      (omega arith)
-      within
+      (place_high column)
+      (place_high later)
       (omega arith)
       earlier;
 }

@@ -6,11 +6,9 @@ mod pressure;
 mod wind;
 
 ghost use Rattle.std.specs.Prelude.{◌≡◌};
-ghost use Rattle.job_glass.specs.Internal.Values.{GlassValues};
-ghost use Rattle.job_pane.specs.Internal.Values.{PaneValues};
-ghost use Rattle.uniform_load.specs.Internal.Steps.{uniform_load_of, overloaded, UniformValues};
+ghost use Rattle.uniform_load.specs.Internal.Steps.{uniform_load_of, overloaded};
 
-use dead_loads::{max_row, min_row};
+use dead_loads::{DeadLoad, dead_load_at};
 use job_glass::Glass;
 use job_pane::Pane;
 use point_load::span;
@@ -25,35 +23,31 @@ pub struct UniformLoad {
     pub edges: u32,
     // B times B, in square mm
     pub square: u64,
-    // the rows of Table 6.1 for the maximum and the minimum, in units of 0.01 kPa
-    pub most: u32,
-    pub least: u32,
-    // those of the wind, in units of 0.01 kPa
+    // of 6 mm glass at the pane's angle
+    pub dead: DeadLoad,
+    // those of the wind
     pub pressures: Pressures,
 }
 
-pub fn uniform_load_of(pane: Pane) -> UniformLoad
-    requires { PaneValues pane }
-    ensures { result ≡ uniform_load_of pane }
-{
-    let b = span(pane) as u64;
-    let wind = pane.wind;
-    let pressures = pressures_of(wind);
-    UniformLoad {
-        edges: pane.edges,
-        square: b * b,
-        most: max_row(pane.angle),
-        least: min_row(pane.angle),
-        pressures,
+impl UniformLoad {
+    pub fn of(pane: Pane) -> Self
+        ensures { result ≡ uniform_load_of pane }
+    {
+        let b = u64::from(span(pane));
+        UniformLoad {
+            edges: pane.edges,
+            square: b * b,
+            dead: dead_load_at(pane.angle),
+            pressures: pressures_of(pane.wind),
+        }
     }
-}
 
-// Whether a pane's load is above what its glass may carry.
-pub fn is_overloaded(load: UniformLoad, glass: Glass) -> bool
-    requires { UniformValues load × GlassValues glass }
-    ensures { result ≡ overloaded load glass }
-{
-    let k = span_constant(load.edges, glass) as u64;
-    let p = design_pressure(load, glass) as u64;
-    k * k < load.square * p
+    // Whether it is above what a glass may carry. Both products fit 128 bits, whatever the numbers of pane and glass.
+    pub fn overloads(self, glass: Glass) -> bool
+        ensures { result ≡ overloaded self glass }
+    {
+        let k = u64::from(span_constant(self.edges, glass));
+        let p = u128::from(design_pressure(self, glass));
+        u128::from(k * k) < u128::from(self.square) * p
+    }
 }

@@ -1,6 +1,5 @@
 // The wind on a pane: specs/Wind.antt.
 ghost use Rattle.std.specs.Prelude.{◌≡◌};
-ghost use Rattle.job_pane.specs.Internal.Values.{WindValues};
 ghost use Rattle.uniform_load.specs.Wind.{pressures_of};
 
 use job_pane::Wind;
@@ -8,7 +7,6 @@ use wind_classes::{Pressures, class_pressures};
 
 // The two pressures of a wind.
 pub fn pressures_of(wind: Wind) -> Pressures
-    requires { WindValues wind }
     ensures { result ≡ pressures_of wind }
 {
     match wind {

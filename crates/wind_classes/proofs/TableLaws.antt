@@ -2,12 +2,12 @@
 --     table_laws    as specs/TableLaws.antt states them
 use Prim.Native.Nat.{ℕ, ◌≤◌, ◌<◌}
 use mathlib.Core.Path.{◌≡◌, refl}
-use mathlib.Core.Bool.{Bool, true, false, not, ◌&&◌, ◌||◌}
+use mathlib.Core.Bool.{Bool, true, not, ◌&&◌, ◌||◌}
 use native.Mathlib.Omega.{arith}
 use borrow.Author.Tests.{leb-true}
 use lib.Dec.{T, leb, eqb}
 use Rattle.std.specs.Prelude.{if◌then◌else◌}
-use Rattle.basics.proofs.Tests.{and_iff, leb_iff, both_true, if_high}
+use Rattle.basics.proofs.Tests.{both_true, if_high}
 use Rattle.ranges.specs.Internal.Counts.{all_to}
 use Rattle.ranges.proofs.All.{all_at}
 use Rattle.wind_classes.specs.ClassPressures.{row_of}
@@ -35,61 +35,43 @@ all_not_above : all_to (λ class. all_to (is_not_above class) 11) 11 ≡ true
 unfolding all_to
 all_not_above = refl
 
--- What a test says where it applies.
 applies : (a b : Bool) → (not a || b) ≡ true → T a → b ≡ true
-applies true b e t = e
-applies false b e t = absurd t
+applies a b e t = grind arith
 
 class_below : (class : ℕ) → T (is_class class) → class < 11
-class_below class t = let k = simp (and_iff, leb_iff) at t in omega arith
-
-either : (a b : Bool) (A : Type 0) → (T a → A) → (T b → A) → T (a || b) → A
-either true b A f g t = f tt
-either false b A f g t = g t
+class_below class t = grind arith
 
 rising_below : (class other : ℕ) → T (rises_to class other) → (class < 11) × (other < 11)
-rising_below class other t =
-    either (leb 1 class && leb class other && leb other 6) (leb 7 class && leb class other && leb other 10) _
-    (λ n. let k = simp (and_iff, leb_iff) at n in (omega arith, omega arith))
-    (λ c. let k = simp (and_iff, leb_iff) at c in (omega arith, omega arith))
-    t
+rising_below class other t = grind arith
+
+-- What the tests say of rows to which they apply.
+sound :
+    (class : ℕ) → T (is_class class) →
+    let r = row_of class in
+    (r.any_position ≤ 1000) × (r.general ≤ 1000) × (r.near_edges ≤ 1000) × (r.general ≤ r.near_edges)
+sound class is = let a = all_at is_sound 11 all_sound class (class_below class is) in grind arith
+
+not_above :
+    (class other : ℕ) → T (rises_to class other) →
+    let r = row_of class in
+    let s = row_of other in
+    (r.any_position ≤ s.any_position) × (r.general ≤ s.general) × (r.near_edges ≤ s.near_edges)
+not_above class other rises =
+    let below = rising_below class other rises in
+    let row = all_at (λ class. all_to (is_not_above class) 11) 11 all_not_above class below.0 in
+    let a = both_true _ _ (applies (rises_to class other) _ (all_at (is_not_above class) 11 row other below.1) rises) in
+    let b = both_true _ _ a.1 in
+    (leb-true _ _ a.0, leb-true _ _ b.0, leb-true _ _ b.1)
 
 -- The same choice of two figures.
 if_not_above : {x y x' y' : ℕ} (b : Bool) → x ≤ x' → y ≤ y' → (if b then x else y) ≤ (if b then x' else y')
-if_not_above true h k = h
-if_not_above false h k = k
+if_not_above b h k = grind arith
 
 pub table_laws : TableLaws
 table_laws = record {
-  at_most = λ class zone is.
-      let s = sound class is in
-      record { down = leb-true _ _ s.0; up = if_high (eqb zone 2) (leb-true _ _ s.2) (leb-true _ _ s.1) };
-  edges_not_below = λ class is. record { down = omega arith; up = leb-true _ _ (sound class is).3 };
+  at_most = λ class zone is. let s = sound class is in record { down = s.0; up = if_high (eqb zone 2) s.2 s.1 };
+  edges_not_below = λ class is. record { down = omega arith; up = (sound class is).3 };
   never_falls = λ class other zone rises.
       let s = not_above class other rises in
-      record { down = leb-true _ _ s.0; up = if_not_above (eqb zone 2) (leb-true _ _ s.2) (leb-true _ _ s.1) };
+      record { down = s.0; up = if_not_above (eqb zone 2) s.2 s.1 };
 }
-  where
-    sound :
-        (class : ℕ) → T (is_class class) →
-        let r = row_of class in
-        (leb r.any_position 1000 ≡ true) × (leb r.general 1000 ≡ true)
-        × (leb r.near_edges 1000 ≡ true) × (leb r.general r.near_edges ≡ true)
-    sound class is =
-        let a = both_true _ _ (applies (is_class class) _ (all_at is_sound 11 all_sound class (class_below class is)) is) in
-        let b = both_true _ _ a.1 in
-        let c = both_true _ _ b.1 in
-        (a.0, b.0, c.0, c.1)
-
-    not_above :
-        (class other : ℕ) → T (rises_to class other) →
-        let r = row_of class in
-        let s = row_of other in
-        (leb r.any_position s.any_position ≡ true) × (leb r.general s.general ≡ true)
-        × (leb r.near_edges s.near_edges ≡ true)
-    not_above class other rises =
-        let below = rising_below class other rises in
-        let row = all_at (λ class. all_to (is_not_above class) 11) 11 all_not_above class below.0 in
-        let a = both_true _ _ (applies (rises_to class other) _ (all_at (is_not_above class) 11 row other below.1) rises) in
-        let b = both_true _ _ a.1 in
-        (a.0, b.0, b.1)

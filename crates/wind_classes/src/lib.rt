@@ -11,8 +11,9 @@ pub struct Pressures {
     pub up: u32,
 }
 
-// Any position, general, and up to 1.2 m from edges, for N1 to N6 and C1 to C4, in units of 0.01 kPa.
-const ROOF_PRESSURES: [[u32; 3]; 10] = [
+// Any position, general, and up to 1.2 m from edges, for N1 to N6 and C1 to C4, in units of 0.01 kPa. A row is an array, so that it
+// takes a line, as in the standard; who reads it names what it holds.
+static ROOF_PRESSURES: [[u32; 3]; 10] = [
     [44, 69, 125],
     [60, 95, 173],
     [95, 149, 270],
@@ -27,20 +28,16 @@ const ROOF_PRESSURES: [[u32; 3]; 10] = [
 
 // The pressures of a class in a zone.
 pub fn class_pressures(class: u32, zone: u32) -> Pressures
-    requires { (1 ≤ class) × (class ≤ 10) }
     ensures { result ≡ class_pressures class zone }
 {
-    let row = (class - 1) as usize;
-    let down = ROOF_PRESSURES[row][0];
-    if zone == 2 {
-        Pressures {
-            down,
-            up: ROOF_PRESSURES[row][2],
-        }
-    } else {
-        Pressures {
-            down,
-            up: ROOF_PRESSURES[row][1],
-        }
+    let place = class.saturating_sub(1) as usize;
+    let [any_position, general, near_edges] = ROOF_PRESSURES.get(place).copied().unwrap_or([0; 3]);
+    let up = match zone {
+        2 => near_edges,
+        _ => general,
+    };
+    Pressures {
+        down: any_position,
+        up,
     }
 }

@@ -1,10 +1,9 @@
 -- Where an offset lies, as an editor counts lines.
-use Rattle.std.specs.Prelude.{ℕ, ◌+◌, List, [], ◌∷◌, eqb, take, if◌then◌else◌}
+use Rattle.std.specs.Prelude.{ℕ, ◌+◌, List, ◌==◌, count_by, take}
 use Rattle.job_line.specs.Bytes.{newline}
 
-unfoldable pub newlines : List ℕ → ℕ
-newlines [] = 0
-newlines (b ∷ bytes) = (if eqb b newline then 1 else 0) + newlines bytes
+abbrev pub newlines : List ℕ → ℕ
+newlines = count_by (λ b. b == newline)
 
 -- One more than the newlines before the offset.
 abbrev pub line_number : List ℕ → ℕ → ℕ

@@ -1,5 +1,8 @@
 -- What the layers above may count on of a glass of an accepted file.
-use Rattle.std.specs.Prelude.{◌≤◌, ◌≡◌, ◌⊎◌}
+use native.Mathlib.Omega.{arith}
+use Rattle.std.specs.Prelude.{◌≤◌, ◌≡◌, ◌⊎◌, T}
+use Rattle.basics.proofs.Tests.{and_iff, leb_iff}
+use Rattle.job_glass.specs.GlassLine.{allowed_glass}
 use Rattle.job_glass.specs.declared.Glass.{Glass}
 
 -- The allowed values of a glass, as bounds.
@@ -18,3 +21,7 @@ pub record GlassValues (g : Glass) : Type 0 where
   pub four_low : 1 ≤ g.four
   pub four_high : g.four ≤ 99999
   pub stock_high : g.stock ≤ 999
+
+-- The law of its id.
+pub allowed_id : (g : Glass) → T (allowed_glass g) → g.id ≤ 9999
+allowed_id g h = let k = simp (and_iff, leb_iff) at h in omega arith

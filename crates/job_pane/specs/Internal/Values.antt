@@ -1,5 +1,8 @@
 -- What the layers above may count on of a pane of an accepted file.
-use Rattle.std.specs.Prelude.{◌≤◌, ◌≡◌, ◌⊎◌}
+use native.Mathlib.Omega.{arith}
+use Rattle.std.specs.Prelude.{◌≤◌, ◌≡◌, ◌⊎◌, T}
+use Rattle.basics.proofs.Tests.{and_iff, leb_iff}
+use Rattle.job_pane.specs.PaneLine.{allowed_pane}
 use Rattle.job_pane.specs.declared.Pane.{Pane}
 use Rattle.job_pane.specs.declared.Wind.{Wind}
 use Rattle.job_pane.specs.declared.Wind.TheVariants.{ByPressure, ByClass}
@@ -22,3 +25,7 @@ pub record PaneValues (p : Pane) : Type 0 where
   pub h_low : 1 ≤ p.h
   pub h_high : p.h ≤ 5000
   pub wind_is : WindValues p.wind
+
+-- The law of its id.
+pub allowed_id : (p : Pane) → T (allowed_pane p) → p.id ≤ 9999
+allowed_id p h = let k = simp (and_iff, leb_iff) at h in omega arith

@@ -1,12 +1,11 @@
--- What reading a file leaves in the buffer. Which bytes a read of the system puts there, no contract can say.
-use Rattle.std.specs.Prelude.{◌≡◌, List, ℕ}
-use Rattle.job_tool.specs.Internal.Counts.{IsPrefixLen}
-use Rattle.job_tool.specs.declared.argument.FileRead.{FileRead}
-use Rattle.job_tool.specs.declared.argument.FileRead.TheVariants.{Bytes, NotOpened, NotRead}
+-- What reading a file leaves of the bytes that were there. Which bytes a read of the system gives, no contract can say.
+use Rattle.std.specs.Prelude.{◌≡◌, ◌≤◌, List, ℕ, Result, Ok, Err, length}
+use Rattle.job_tool.specs.declared.argument.Unread.{Unread}
+use Rattle.job_tool.specs.declared.argument.Unread.TheVariants.{NotOpened, NotRead}
 
--- The count of a file that was read lies within the buffer; where no file was opened, the buffer is as it was; where a read
--- failed, anything may stand there.
-abbrev pub Leaves : FileRead → List ℕ → List ℕ → Type 0
-Leaves (Bytes length) before after = IsPrefixLen length after
-Leaves NotOpened before after = after ≡ before
-Leaves NotRead before after = Unit
+-- A file that was read has no more bytes than there is room for; where no file was opened, the bytes are as they were; where a read
+-- failed, any bytes may be there.
+abbrev pub Leaves : Result (Unit {0}) Unread → List ℕ → List ℕ → Type 0
+Leaves (Ok done) before after = length after ≤ 65536
+Leaves (Err NotOpened) before after = after ≡ before
+Leaves (Err NotRead) before after = Unit

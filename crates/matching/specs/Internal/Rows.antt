@@ -1,5 +1,5 @@
 -- Rows of bits and lists of sheets, as what is to be matched: document 01, "The placing".
-use Rattle.std.specs.Prelude.{ℕ, List, length, get_or}
+use Rattle.std.specs.Prelude.{ℕ, List, Option, Some, None, length, get_or}
 use Rattle.glass_set.specs.Internal.Member.{has}
 use Rattle.matching.specs.Internal.Matching.{Task}
 
@@ -12,6 +12,11 @@ task_of rows sheets = record {
   sheets = λ g. get_or sheets g 0;
 }
 
--- The way that a list of glass numbers states, one for each pane.
-abbrev pub way_of : List ℕ → ℕ → ℕ
-way_of held p = get_or held p 0
+-- The number of the glass that a pane holds, or 64, which is that of none.
+abbrev pub number_held : Option ℕ → ℕ
+number_held None = 64
+number_held (Some glass) = glass
+
+-- The way that a list of held glasses states, one for each pane.
+abbrev pub way_of : List (Option ℕ) → ℕ → ℕ
+way_of held p = number_held (get_or held p None)

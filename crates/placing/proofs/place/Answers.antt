@@ -1,51 +1,20 @@
 -- `place` meets its contract: the file's own refusal, the refusal of a lent list, or the placing of the job that was read.
-use Prim.Native.Nat.{ℕ}
-use mathlib.Core.Path.{◌≡◌, refl, subst}
-use mathlib.Core.Bool.{Bool, true, false, ◌||◌}
-use lib.Dec.{ltb}
-use lib.ListN.{length}
-use borrow.Author.Tests.{ltb-false}
-use Rattle.basics.proofs.Tests.{both_false}
-use Rattle.job_file.specs.File.{outcome_of}
-use Rattle.job_file.specs.declared.job.Job.{Job}
-use Rattle.job_file.specs.Internal.Job.{panes_of, ReadJob}
-use Rattle.job_file.proofs.Laws.{job_read, refusal_read, pane_count_lem}
-use Rattle.causes.specs.Answer.{gives}
+use mathlib.Core.Path.{sym}
+use native.Mathlib.Omega.{arith}
+use Rattle.std.proofs.lemmas.Result.{err_from_is_err_and}
 use Rattle.placing.proofs.Promises.{promised_refusal, promised_short, promised_counted}
 use Rattle.placing.proofs.place.Goals as goal
 
--- What the test says of the panes of the file.
-test_is :
-    (job : Job) → ReadJob job → (answers group : ℕ) (b : Bool) →
-    (ltb answers job.pane_count || ltb group job.pane_count) ≡ b →
-    (ltb answers (length (panes_of job)) || ltb group (length (panes_of job))) ≡ b
-test_is job read answers group b e =
-    subst (λ (n : ℕ). (ltb answers n || ltb group n) ≡ b) (pane_count_lem job read) e
+pub returns-in_err-job : goal.returns-in_err-job
+returns-in_err-job c =
+    let p = err_from_is_err_and c.from_residual.result c.from_residual.ensures.1 in
+    rw (p.1, p.2) (promised_refusal _ c.args.answers.now c.args.group.now _ _ (sym c.in_err-job.ensures))
 
-pub returns-then-answers-job : goal.returns-then-answers-job
-returns-then-answers-job c =
-    let job = job_read c.args.file.now c.read_job-job.result _ _ c.read_job-job.ensures c.in-Accepted.is in
-    let a = c.args in
-    promised_short (outcome_of a.file.now) a.answers.now a.group.now _ _ job.outcome
-    (test_is c.read_job-job.result job.read _ _ true c.if-answers-job.true)
+pub returns-then-shorter-len : goal.returns-then-shorter-len
+returns-then-shorter-len c =
+    promised_short _ c.args.answers.now c.args.group.now _ _ (sym c.in_ok-job.ensures) (omega arith)
 
-pub place_panes-requires : goal.place_panes-requires
-place_panes-requires c =
-    let job = job_read c.args.file.now c.read_job-job.result _ _ c.read_job-job.ensures c.in-Accepted.is in
-    let long = both_false _ _ c.if-answers-job.false in
-    (job.read, ltb-false _ _ long.0, ltb-false _ _ long.1)
-
-pub returns-in-Refused : goal.returns-in-Refused
-returns-in-Refused c =
-    let a = c.args in
-    promised_refusal (outcome_of a.file.now) a.answers.now a.group.now _ _
-    (refusal_read a.file.now c.read_job-job.result c.in-Refused.cause c.in-Refused.offset c.read_job-job.ensures c.in-Refused.is)
-
-pub returns-else-answers-job : goal.returns-else-answers-job
-returns-else-answers-job c =
-    let job = job_read c.args.file.now c.read_job-job.result _ _ c.read_job-job.ensures c.in-Accepted.is in
-    let a = c.args in
-    promised_counted (outcome_of a.file.now) a.answers.now a.group.now _ _ job.outcome
-    (gives c.place_panes.result) c.place_panes.new.answers c.place_panes.new.group
-    (test_is c.read_job-job.result job.read _ _ false c.if-answers-job.false)
-    (record { counts = c.place_panes.result; result_is = refl; glazed = c.place_panes.ensures })
+pub returns : goal.returns
+returns c =
+    promised_counted _ c.args.answers.now c.args.group.now _ _ (sym c.in_ok-job.ensures) c.place_panes.result
+    c.place_panes.new.answers c.place_panes.new.group (omega arith) c.place_panes.ensures

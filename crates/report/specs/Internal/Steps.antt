@@ -1,10 +1,5 @@
--- What the functions of this crate ask and leave: each writes some bytes at a place of the buffer.
-use Rattle.std.specs.Prelude.{ℕ, ◌+◌, ◌≤◌, ◌<◌, ◌≡◌, List, ◌++◌, length, get_or, take, drop}
-
--- Bytes were written from a place on, up to another, and nothing else changed.
-pub record WroteAt (bytes : List ℕ) (at : ℕ) (before after : List ℕ) (end : ℕ) : Type 0 where
-  pub end_is : end ≡ at + length bytes
-  pub buffer : after ≡ take at before ++ (bytes ++ drop end before)
+-- What the functions of this crate ask of numbers.
+use Rattle.std.specs.Prelude.{ℕ, ◌≤◌, ◌<◌, ◌≡◌, List, length, get_or}
 
 -- Numbers of at most four digits, as ids are.
 abbrev pub FourDigits : List ℕ → Type 0

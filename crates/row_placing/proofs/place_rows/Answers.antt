@@ -1,28 +1,25 @@
 -- `place_rows` meets its contract, by the laws of the promise from what its parts leave.
 use borrow.Author.Rules.{rules}
-use mathlib.Core.Path.{◌≡◌, refl, ◌∙◌}
-use lib.ListN.{length}
+use mathlib.Core.Path.{refl, ◌∙◌}
 use Rattle.basics.specs.Lent.{lent}
 use Rattle.row_placing.proofs.Glazing.{rows_full, rows_short}
 use Rattle.row_placing.proofs.place_rows.Goals as goal
 
-pub returns-then-placed-wanted : goal.returns-then-placed-wanted
-returns-then-placed-wanted c =
+pub returns-then-full : goal.returns-then-full
+returns-then-full c =
     let a = c.args in
-    let held = c.match_panes-tight.new.held in
-    let held_long : length held ≡ length a.rows.now = c.match_panes-tight.auto.held ∙ c.requires.1 in
-    let ids_long : length a.glass_ids.now ≡ 64 = search rules in
-    rows_full a.rows.now a.sheets.now a.glass_ids.now a.pane_ids.now held c.match_panes-tight.result
-    held_long ids_long c.match_panes-tight.ensures (lent a.answers.now c.write_answers-placed.new.answers)
-    (lent a.group.now a.group.now) c.write_answers-placed.result c.write_answers-placed.ensures refl c.if-placed-wanted.true
+    let m = c.match_panes-tight in
+    let w = c.write_answers-placed in
+    rows_full a.rows.now a.sheets.now a.glass_ids.now a.pane_ids.now m.new.held m.result (m.auto.held ∙ c.requires.1)
+    (search rules) m.ensures (lent a.answers.now w.new.answers) (lent a.group.now a.group.now) w.result w.ensures refl
+    c.if-full.true
 
-pub returns : goal.returns
-returns c =
+pub returns-else-full : goal.returns-else-full
+returns-else-full c =
     let a = c.args in
-    let held = c.match_panes-tight.new.held in
-    let held_long : length held ≡ length a.rows.now = c.match_panes-tight.auto.held ∙ c.requires.1 in
-    let ids_long : length a.glass_ids.now ≡ 64 = search rules in
-    rows_short a.rows.now a.sheets.now a.glass_ids.now a.pane_ids.now held c.match_panes-tight.result
-    held_long ids_long c.match_panes-tight.ensures (lent a.answers.now c.write_answers-placed.new.answers)
-    (lent a.group.now c.write_group-count.new.group) c.write_answers-placed.result c.write_answers-placed.ensures
-    c.write_group-count.result c.if-placed-wanted.false c.write_group-count.ensures
+    let m = c.match_panes-tight in
+    let w = c.write_answers-placed in
+    let g = c.write_group-group in
+    rows_short a.rows.now a.sheets.now a.glass_ids.now a.pane_ids.now m.new.held m.result (m.auto.held ∙ c.requires.1)
+    (search rules) m.ensures (lent a.answers.now w.new.answers) (lent a.group.now g.new.group) w.result w.ensures g.result
+    c.if-full.false g.ensures

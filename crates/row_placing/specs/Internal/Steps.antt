@@ -1,16 +1,16 @@
 -- What `write_answers` leaves, and what the group list is to get: document 01, "The placing".
-use Rattle.std.specs.Prelude.{ℕ, ◌≡◌, Bool, List, [], eqb, length, get_or, if◌then◌else◌}
+use Rattle.std.specs.Prelude.{ℕ, ◌≡◌, Option, Bool, List, [], eqb, length, get_or, if◌then◌else◌}
 use Rattle.rising_ids.specs.Internal.Listing.{list_to, rising}
 use Rattle.glass_set.specs.Internal.Member.{is_within}
-use Rattle.row_placing.specs.Internal.Entries.{entries_at}
+use Rattle.row_placing.specs.Internal.Entries.{entries_held}
 use Rattle.row_placing.specs.Placing.{nonzero}
 use Rattle.basics.specs.Lent.{Lent}
 use Rattle.basics.specs.Internal.Arrays.{written}
 
 -- What `write_answers` leaves: the ids of the glasses held in the first entries, and how many are not 0.
-pub record Answered (ids held : List ℕ) (answers : Lent) (placed : ℕ) : Type 0 where
-  pub answers_are : answers.after ≡ written (entries_at ids held) answers.before
-  pub placed_is : placed ≡ nonzero (entries_at ids held)
+pub record Answered (ids : List ℕ) (held : List (Option ℕ)) (answers : Lent) (placed : ℕ) : Type 0 where
+  pub answers_are : answers.after ≡ written (entries_held ids held) answers.before
+  pub placed_is : placed ≡ nonzero (entries_held ids held)
 
 -- Whether a pane can have no glass but tight ones, by its row; and the ids of those panes, in the order of the rows.
 abbrev pub confined_to : List ℕ → ℕ → ℕ → Bool

@@ -1,34 +1,19 @@
--- `file::read_job` meets its contract: each return is the outcome that the tests on the way there decide.
-use native.Mathlib.Omega.{arith}
-use Rattle.job_file.proofs.Files.{tail_part, file_short, file_trailer, file_order, file_beyond, file_parts}
+-- `file::read_job` meets its contract: how its parts ended decides what the file says.
+use Rattle.std.proofs.Common.{rules}
+use Rattle.job_file.proofs.Files.{glasses_refused, panes_refused, both_read, rules_read}
 use Rattle.job_file.proofs.file.read_job.Goals as goal
 
-pub returns-then-length-lt14 : goal.returns-then-length-lt14
-returns-then-length-lt14 c = rw (file_short c.args.file.now c.if-length-lt14.true) c.refusal.ensures
+pub returns-in_err-read_part : goal.returns-in_err-read_part
+returns-in_err-read_part c = search (rules, glasses_refused _ _ c.in_ok-parts.ensures _ _ c.in_err-read_part.ensures)
 
-pub returns-then-pane-glass : goal.returns-then-pane-glass
-returns-then-pane-glass c =
-    let file = c.args.file.now in
-    let offsets = rw (tail_part file _) at c.in-At.ensures in
-    rw (file_order file (omega arith) (omega arith) c.in-At.glass c.in-At.pane offsets c.if-pane-glass.true)
-    c.refusal-then-pane-glass.ensures
+pub returns-in_err-read_part-2 : goal.returns-in_err-read_part-2
+returns-in_err-read_part-2 c =
+    search (rules, panes_refused _ _ c.in_ok-parts.ensures _ c.in_ok-read_part.ensures _ _ c.in_err-read_part-2.ensures)
 
-pub returns-then-end-pane : goal.returns-then-end-pane
-returns-then-end-pane c =
-    let file = c.args.file.now in
-    let offsets = rw (tail_part file _) at c.in-At.ensures in
-    rw (file_beyond file (omega arith) (omega arith) c.in-At.glass c.in-At.pane offsets c.if-pane-glass.false c.if-end-pane.true)
-    c.refusal-then-end-pane.ensures
+pub invariant_of-job : goal.invariant_of-job
+invariant_of-job c = record {
+  rules = rules_read _ _ c.in_ok-parts.ensures _ c.in_ok-read_part.ensures _ c.in_ok-read_part-2.ensures;
+}
 
-pub returns-in-NoOffsets : goal.returns-in-NoOffsets
-returns-in-NoOffsets c =
-    let file = c.args.file.now in
-    rw (file_trailer file (omega arith) (omega arith) (rw (tail_part file _) at c.in-NoOffsets.ensures))
-    c.refusal-in-NoOffsets.ensures
-
-pub returns-else-end-pane : goal.returns-else-end-pane
-returns-else-end-pane c =
-    let file = c.args.file.now in
-    let offsets = rw (tail_part file _) at c.in-At.ensures in
-    rw (file_parts file (omega arith) (omega arith) c.in-At.glass c.in-At.pane offsets c.if-pane-glass.false c.if-end-pane.false)
-    c.read_parts.ensures
+pub returns : goal.returns
+returns c = both_read _ _ c.in_ok-parts.ensures _ c.in_ok-read_part.ensures _ c.in_ok-read_part-2.ensures

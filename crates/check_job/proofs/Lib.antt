@@ -1,2 +1,0 @@
--- Counting newlines.
-pub mod Newlines

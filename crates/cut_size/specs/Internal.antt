@@ -1,2 +1,0 @@
--- The sides of a pane or a sheet in the order of their length.
-pub mod OrderedSides

@@ -1,6 +1,0 @@
--- `is_sheet_spare` is safe and ends: nothing has to hold from pair to pair, and the measure is how many are left.
-use Rattle.std.proofs.Common.{◌-◌}
-use Rattle.place_job.proofs.answers.is_sheet_spare.Given as goal
-
-abbrev pub decreases-loop-i : goal.decreases-loop-i
-decreases-loop-i l = 16384 - l.i

@@ -1,2 +1,0 @@
--- What the lookup asks.
-pub mod Steps
