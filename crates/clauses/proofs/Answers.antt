@@ -1,5 +1,6 @@
--- The pane and the glass of a question.
---     answer_found    the answer of an accepted file, by the first pane and the first glass that have the two ids
+-- The answer to a question about an accepted file.
+--     answer_placed    by the places of the two ids
+--     answer_found     by the first pane and the first glass that have them
 use Prim.Native.Nat.{ℕ}
 use mathlib.Core.Path.{◌≡◌, refl}
 use mathlib.Core.List.{List}
@@ -15,14 +16,15 @@ use Rattle.job_file.specs.Entries.{glass_ids_of, pane_ids_of}
 use Rattle.clauses.specs.VerdictAnswer.{verdict_answer}
 use Rattle.clauses.specs.Internal.Found.{found_answer}
 
-pub answer_found :
+pub answer_placed :
     (glasses : List Glass) (panes : List Pane) (pane glass : ℕ) →
-    found_answer (find (λ p. nat_eq p.id pane) panes) (find (λ g. nat_eq g.id glass) glasses)
+    found_answer
+    (entry_at blank_pane panes (place_of pane (pane_ids_of panes)))
+    (entry_at blank_glass glasses (place_of glass (glass_ids_of glasses)))
     ≡ verdict_answer (accepted glasses panes) pane glass
 unfolding verdict_answer
-answer_found glasses panes pane glass =
-    rw (entry_of_id (λ p. p.id) pane blank_pane panes, entry_of_id (λ g. g.id) glass blank_glass glasses)
-    (go (place_of pane (pane_ids_of panes)) (place_of glass (glass_ids_of glasses)) refl refl)
+answer_placed glasses panes pane glass =
+    go (place_of pane (pane_ids_of panes)) (place_of glass (glass_ids_of glasses)) refl refl
   where
     go :
         (p g : Option ℕ) → place_of pane (pane_ids_of panes) ≡ p → place_of glass (glass_ids_of glasses) ≡ g →
@@ -31,3 +33,11 @@ answer_found glasses panes pane glass =
     go None g is there = rw (verdict_answer, is)
     go (Some p) None is there = rw (verdict_answer, is, there)
     go (Some p) (Some g) is there = rw (verdict_answer, is, there)
+
+pub answer_found :
+    (glasses : List Glass) (panes : List Pane) (pane glass : ℕ) →
+    found_answer (find (λ p. nat_eq p.id pane) panes) (find (λ g. nat_eq g.id glass) glasses)
+    ≡ verdict_answer (accepted glasses panes) pane glass
+answer_found glasses panes pane glass =
+    rw (entry_of_id (λ p. p.id) pane blank_pane panes, entry_of_id (λ g. g.id) glass blank_glass glasses)
+    (answer_placed glasses panes pane glass)

@@ -6,3 +6,5 @@ pub use Rattle.clauses.proofs.SightLaws.{sight_laws}
 -- Of panes by wind class: the verdict is that of the pane with their pressures, whose numbers are allowed.
 pub use Rattle.clauses.proofs.WindLaws.{wind_laws}
 pub use Rattle.uniform_load.proofs.AsPressures.{as_pressures_laws}
+-- The answer to a question about an accepted file, by the places of the two ids, and by the pane and the glass that have them.
+pub use Rattle.clauses.proofs.Answers.{answer_placed, answer_found}

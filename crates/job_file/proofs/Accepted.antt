@@ -3,7 +3,6 @@
 --     Accepted, accepted_was       what a file was that is accepted: its length, its offsets, and what each part read as
 --     accepted_is                  such a file is accepted
 --     accepted_rules               the lists of an accepted file keep the rules
---     shortest, longest            an accepted file has 14 to 65535 bytes
 --     glass_values, pane_values    every number of an accepted glass or pane is within its bounds
 --     glass_ids, pane_ids          no two glasses, and no two panes, have one id
 use Prim.Native.Nat.{ℕ, ◌-◌, ◌≤◌, ◌<◌}
@@ -137,12 +136,6 @@ module _ (file : List ℕ) (gs : List Glass) (ps : List Pane) where
         of_glasses = part_rules glass_form a.pane _ gs a.glass_part;
         of_panes = part_rules pane_form (length file - 14) _ ps a.pane_part;
       }
-
-  pub shortest : outcome_of file ≡ accepted gs ps → 14 ≤ length file
-  shortest e = (accepted_was e).shortest
-
-  pub longest : outcome_of file ≡ accepted gs ps → length file ≤ 65535
-  longest e = (accepted_was e).longest
 
 -- The rules of a job, at an index or two.
 module _ {gs : List Glass} {ps : List Pane} (rules : Rules gs ps) where

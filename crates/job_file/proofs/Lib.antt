@@ -3,7 +3,6 @@ pub mod Laws
 -- What the code reads is what the definition gives.
 pub mod Digits
 pub mod Files
--- What holds of accepted and of refused files, and of a job that was read.
+-- What holds of accepted and of refused files.
 pub mod Accepted
 pub mod Refused
-pub mod Jobs

@@ -31,15 +31,13 @@ pub fn place(file: &[u8], answers: &mut [u32], group: &mut [u32]) -> Result<Plac
     let job = read_job(file)?;
     let shorter = answers.len().min(group.len());
     if shorter < job.panes.len() {
-        return Err(Refusal {
-            cause: Cause::ListTooShort,
-            offset: 0,
-        });
+        return Err(Cause::ListTooShort.at(0));
     }
     Ok(place_panes(&job, answers, group))
 }
 
-// The placing of a job's panes from its stocks.
+// The placing of a job's panes from its stocks. What the panes hold stands in fixed memory, of which the search is lent as much as
+// there are panes.
 pub fn place_panes(job: &Job, answers: &mut [u32], group: &mut [u32]) -> PlaceCounts
     requires { (length (panes_of job.now) ≤ length answers.old) × (length (panes_of job.now) ≤ length group.old) }
     ensures { Glazed (schedule_of (glasses_of job.now) (stocks_of (glasses_of job.now)) (panes_of job.now)) result

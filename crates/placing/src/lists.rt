@@ -7,7 +7,8 @@ use arrayvec::ArrayVec;
 use job_glass::Glass;
 use job_pane::Pane;
 
-// The stocks and the ids of glasses, and 0 past the last.
+// The stocks and the ids of glasses, and 0 past the last: two arrays, one entry for each bit of a row, since the search reads the
+// stocks alone.
 #[derive(Drop)]
 pub(crate) struct GlassLists {
     pub(crate) stocks: [u32; 64],

@@ -8,13 +8,18 @@ use crate::glass_loads::{max_dead_load, min_dead_load};
 use job_glass::Glass;
 
 // P, in units of 0.01 kPa: the dead load with the wind on it, or what the glass's own weight leaves of the uplift. The weight is
-// taken off after the larger is chosen, so no difference is below 0.
+// taken off after the larger is chosen, so no difference is below 0. With `max` a placing of house roofs takes a tenth more time.
 pub fn design_pressure(load: UniformLoad, glass: Glass) -> u64
     ensures { result ≡ pressure_on load glass }
 {
     let downward = max_dead_load(load.dead.maximum, glass) + u64::from(load.pressures.down);
     let held = min_dead_load(load.dead.minimum, glass);
-    (downward + held).max(u64::from(load.pressures.up)) - held
+    let up = u64::from(load.pressures.up);
+    if held + downward < up {
+        up - held
+    } else {
+        downward
+    }
 }
 
 // K, in tenths.

@@ -1,4 +1,4 @@
--- The dead load at an angle, as the code gives them.
+-- The dead load at an angle, as the code gives it.
 use Rattle.std.specs.Prelude.{ℕ}
 use Rattle.dead_loads.specs.DeadLoads.{maximum_at, minimum_at}
 use Rattle.dead_loads.specs.declared.DeadLoad.{DeadLoad}

@@ -12,7 +12,7 @@ returns-in_err-job c =
 
 pub returns-then-shorter-len : goal.returns-then-shorter-len
 returns-then-shorter-len c =
-    promised_short _ c.args.answers.now c.args.group.now _ _ (sym c.in_ok-job.ensures) (omega arith)
+    rw c.at.ensures (promised_short _ c.args.answers.now c.args.group.now _ _ (sym c.in_ok-job.ensures) (omega arith))
 
 pub returns : goal.returns
 returns c =
