@@ -35,7 +35,7 @@ fn text_of(file: &[u8]) -> Text
     }
 }
 
-// The text of a job's placing. The lists are those that `place` has from C, with the counts of what was written.
+// The text of a job's placing. The placing fills lent lists, as C lends them to `place`, and counts what it writes.
 fn text_of_job(job: &Job) -> Text
     ensures { TextOfPlacing job.now.glasses.items job.now.panes.items result.bytes }
 {

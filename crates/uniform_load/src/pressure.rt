@@ -7,8 +7,9 @@ use crate::UniformLoad;
 use crate::glass_loads::{max_dead_load, min_dead_load};
 use job_glass::Glass;
 
-// P, in units of 0.01 kPa: the dead load with the wind on it, or what the glass's own weight leaves of the uplift. The weight is
-// taken off after the larger is chosen, so no difference is below 0. With `max` a placing of house roofs takes a tenth more time.
+// P, in units of 0.01 kPa: the dead load with the wind on it, or what the glass's own weight leaves of the uplift. The latter
+// is the larger where the uplift is above both together, so no difference is below 0. With `max` a placing of house roofs takes a tenth
+// more time.
 pub fn design_pressure(load: UniformLoad, glass: Glass) -> u64
     ensures { result ≡ pressure_on load glass }
 {
