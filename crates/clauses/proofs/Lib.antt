@@ -1,5 +1,7 @@
 -- The front page: what the layers above may cite.
 pub mod Laws
+-- The verdict, by the tests that led to it.
+pub mod Verdicts
 -- Laws of the verdict.
 pub mod VerdictLaws
 pub mod SightLaws

@@ -16,7 +16,8 @@ pub(crate) fn read_trailer(bytes: &[u8]) -> Option<(usize, usize)>
     }
 }
 
-// The number that five bytes make, where all of them are digits. `parse` would take a sign, and wants text.
+// The number that five bytes make, where all of them are digits. `parse` is no plainer: it takes a sign, so each byte
+// would be asked all the same.
 fn five_digits(bytes: [u8; 5]) -> Option<usize>
     ensures { result ≡ as_digits bytes }
 {

@@ -9,19 +9,19 @@ use arrayvec::ArrayVec;
 use causes::{Cause, Refusal};
 use ids::IdSet;
 
-// Reads the part that ends at the file's offset `end`, and puts the entries before its first fault into an empty list. The caller's list
-// is filled in place, since a list that is returned is copied.
+// Reads the part that ends at the file's offset `end`, and puts the entries before its first fault into a list, in place of what it has.
+// The caller's list is filled, since a list that is returned is copied.
 #[tactic(auto, using(crate::proofs::Parts::by_lines))]
 pub fn read_part<E: Entry, const N: usize>(
     part: &[u8],
     end: usize,
     entries: &mut ArrayVec<E, N>,
 ) -> Result<(), Refusal>
-    requires empty { entries.old.items ≡ [] }
     requires most { E.form.most ≡ N }
     requires within { length part.now ≤ end }
     ensures { PartRead E.form end part.now entries.new.items result }
 {
+    entries.clear();
     let mut seen = IdSet::new();
     let mut rest = part;
     while !rest.is_empty() {

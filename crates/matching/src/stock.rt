@@ -41,13 +41,12 @@ impl Stock {
         self.spare
     }
 
-    // Takes one sheet of a glass.
+    // Takes one sheet of a glass, if there is one.
     pub fn take(&mut self, glass: usize)
-        requires below { glass < 64 }
-        requires in_stock { 0 < get_or self.old glass 0 }
+        requires { glass < 64 }
         ensures { self.new ≡ set self.old glass (get_or self.old glass 0 - 1) }
     {
-        self.left[glass] -= 1;
+        self.left[glass] = self.left[glass].saturating_sub(1);
         if self.left[glass] == 0 {
             self.spare = without(self.spare, glass);
         }

@@ -2,7 +2,7 @@
 // other than 0 is a glass that passes for its pane; where a pane has 0, the sheets of all its passing glasses are given away;
 // later entries are unchanged.
 use crate::job::Job;
-use crate::lists::Lists;
+use crate::lists::{Lists, is_kept};
 use crate::rules::Rule;
 use std::array;
 
@@ -17,7 +17,7 @@ pub(crate) fn check_answers(job: &Job, placed: usize, lists: &Lists) -> Result<(
     let left = sheets_left(job, answers)?;
     Rule::Answers.check(are_passing(job, answers))?;
     Rule::Spare.check(!is_sheet_spare(job, answers, &left))?;
-    Rule::LaterEntries.check(lists.are_answers_kept(job.panes.len()))
+    Rule::LaterEntries.check(is_kept(&lists.before, answers, job.panes.len()))
 }
 
 // How many sheets of each glass are left, where each pane takes a sheet of the glass that is its answer and passes for it.

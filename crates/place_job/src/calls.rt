@@ -1,6 +1,6 @@
 // The calls that a file is tried with, and the refusal that is due from each: document 01, "What each cause gives".
 use crate::job::Job;
-use crate::lists::{Filling, Length, Lists};
+use crate::lists::{Filling, Length, Lists, is_kept};
 use crate::rules::{Outcome, Rule, check_result};
 use causes::{Cause, Refusal};
 use row_placing::PlaceCounts;
@@ -46,7 +46,9 @@ impl Call {
         match (placed, self.due(job)) {
             (Ok(counts), Ok(())) => check_result(job, counts, &lists),
             (Err(refusal), Err(due)) if refusal == due => {
-                Rule::RefusedLists.check(lists.are_answers_kept(0) && lists.is_group_kept(0))?;
+                let is_kept = is_kept(&lists.before, &lists.answers, 0)
+                    && is_kept(&lists.before, &lists.group, 0);
+                Rule::RefusedLists.check(is_kept)?;
                 Ok(Outcome::Refused(refusal))
             }
             _ => Err(Rule::Refusal),

@@ -5,12 +5,12 @@
 // No way to give out the sheets serves more panes of such a group than it has sheets. So a group that lacks as many as are left over
 // shows that none serves more panes of the roof.
 use crate::job::Job;
-use crate::lists::Lists;
+use crate::lists::{Lists, is_kept};
 use crate::rules::Rule;
 
 // The group where all panes are placed.
 pub(crate) fn check_full_group(count: usize, lists: &Lists) -> Result<(), Rule> {
-    Rule::FullGroup.check(count == 0 && lists.is_group_kept(0))
+    Rule::FullGroup.check(count == 0 && is_kept(&lists.before, &lists.group, 0))
 }
 
 // The group where not all panes are placed. Where it has as many panes as entries, each entry is the id of a pane and none is
@@ -33,7 +33,7 @@ pub(crate) fn check_short_group(
     Rule::GroupSheets.check(0 < lacking)?;
     Rule::GroupShortage.check(lacking == left_over)?;
     Rule::GroupOrder.check(ids.is_sorted_by(|id, next| id < next))?;
-    Rule::LaterEntries.check(lists.is_group_kept(count))
+    Rule::LaterEntries.check(is_kept(&lists.before, &lists.group, count))
 }
 
 // By how many the panes of these ids are more than the sheets of the glasses that pass for them, each glass counted once; 0 where they

@@ -74,13 +74,7 @@ pub(crate) struct Lists {
     pub(crate) group: [u32; LONGEST],
 }
 
-impl Lists {
-    // Whether the answers are as before from the entry `from` on.
-    pub(crate) fn are_answers_kept(&self, from: usize) -> bool {
-        self.before.get(from..) == self.answers.get(from..)
-    }
-
-    pub(crate) fn is_group_kept(&self, from: usize) -> bool {
-        self.before.get(from..) == self.group.get(from..)
-    }
+// Whether a list is as before from the entry `from` on.
+pub(crate) fn is_kept(before: &[u32], after: &[u32], from: usize) -> bool {
+    before.get(from..) == after.get(from..)
 }

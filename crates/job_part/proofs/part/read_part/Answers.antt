@@ -6,7 +6,7 @@ use Rattle.job_part.proofs.Parts.{progress_begin, progress_taken, progress_many,
 use Rattle.job_part.proofs.part.read_part.Goals as goal
 
 pub loop-rest-init : goal.loop-rest-init
-loop-rest-init g c = rw c.requires.empty (progress_begin _ _ _ _ c.new-seen.ensures)
+loop-rest-init g c = rw c.clear.ensures (progress_begin _ _ _ _ c.new-seen.ensures)
 
 pub returns-then-is_full : goal.returns-then-is_full
 returns-then-is_full g c = rw c.at.ensures (progress_many _ _ _ _ _ _ c.loop-rest.invariant (grind (arith, common_steps)) (grind (arith, common_steps)))
