@@ -1,15 +1,12 @@
 -- Laws of tests, and of numbers by whether they are equal.
 --     clash, differ      whatever follows from two constructors' being equal; from a test that both passes and fails
 --     and_iff, leb_iff   both of two tests; a number at most another
---     both_true          both of two tests pass
---     both_false         neither of two tests does
 --     if_high            a choice of two numbers within a bound
 --     one_of             a number is one of several
---     same_or_not        two numbers are equal or not
 --     last_or_below      a number below n + 1 is n or below n
 --     one_more           what holds below n, and of n, holds below n + 1
-use Prim.Native.Nat.{ℕ, zero, suc, ◌+◌, ◌≤◌, ◌<◌}
-use mathlib.Core.Path.{◌≡◌, refl, ap, subst⁻¹}
+use Prim.Native.Nat.{ℕ, suc, ◌+◌, ◌≤◌, ◌<◌}
+use mathlib.Core.Path.{◌≡◌, subst⁻¹}
 use mathlib.Core.Logic.{◌↔◌, ◌⊎◌, inl, inr}
 use mathlib.Core.Bool.{Bool, true, false, ◌&&◌, ◌||◌}
 use native.Mathlib.Nat.{le_of_suc-le-suc, eq-or-lt_of_le}
@@ -31,15 +28,6 @@ and_iff false b = (λ h. absurd h, λ h. h.0)
 pub leb_iff : (m n : ℕ) → T (leb m n) ↔ (m ≤ n)
 leb_iff m n = (leb→le m n, le→leb m n)
 
-pub both_true : (a b : Bool) → (a && b) ≡ true → (a ≡ true) × (b ≡ true)
-both_true true true e = (refl, refl)
-both_true true false e = differ e refl
-both_true false b e = differ e refl
-
-pub both_false : (a b : Bool) → (a || b) ≡ false → (a ≡ false) × (b ≡ false)
-both_false false b e = (refl, e)
-both_false true b e = differ refl e
-
 pub if_high : {x y n : ℕ} (b : Bool) → x ≤ n → y ≤ n → (if b then x else y) ≤ n
 if_high true h k = h
 if_high false h k = k
@@ -50,16 +38,6 @@ one_of {B} n a others f h = go (eqb n a) (eqb→eq n a) h
     go : (t : Bool) → (T t → n ≡ a) → T (t || others) → (n ≡ a) ⊎ B
     go true is h = inl (is tt)
     go false is h = inr (f h)
-
-pub same_or_not : (a b : ℕ) → (a ≡ b) ⊎ (a ≡ b → ⊥)
-same_or_not zero zero = inl refl
-same_or_not zero (suc b) = inr (λ e. omega (arith, e))
-same_or_not (suc a) zero = inr (λ e. omega (arith, e))
-same_or_not (suc a) (suc b) = go (same_or_not a b)
-  where
-    go : (a ≡ b) ⊎ (a ≡ b → ⊥) → (suc a ≡ suc b) ⊎ (suc a ≡ suc b → ⊥)
-    go (inl e) = inl (ap suc e)
-    go (inr other) = inr (λ e. other (omega (arith, e)))
 
 pub last_or_below : (i n : ℕ) → i < suc n → (i ≡ n) ⊎ (i < n)
 last_or_below i n l = eq-or-lt_of_le (le_of_suc-le-suc l)

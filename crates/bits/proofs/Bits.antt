@@ -3,11 +3,9 @@
 --     has_and, has_or     the bits that both of two words have; that one of them has
 --     has_minus           the bits of a word that another has not
 --     has_one             the word of one bit
---     has_shifted         the bits of a word that was shifted to the right
---     none_above          no bit is set past a word's size
 --     first_has           the digit above the trailing zeros is a bit of a word that is not 0
 --     none_below          no digit among the trailing zeros is a bit
-use Prim.Native.Nat.{ℕ, zero, suc, ◌+◌, ◌-◌, ◌*◌, ◌/◌, ◌%◌, ◌^◌, ◌≤◌, ◌<◌, min, max}
+use Prim.Native.Nat.{ℕ, zero, suc, ◌-◌, ◌*◌, ◌/◌, ◌%◌, ◌^◌, ◌<◌, min, max}
 use mathlib.Core.Path.{◌≡◌, refl, ◌∙◌}
 use mathlib.Core.Bool.{Bool, true, false, not, ◌&&◌, ◌||◌}
 use native.Mathlib.Nat.{one-mul}
@@ -16,10 +14,10 @@ use borrow.Author.Tests.{eqb-true, eqb-false}
 use lib.Bits.{bit_and, bit_or}
 use lib.Count.{count_trailing_zeros}
 use lib.Dec.{eqb}
-use lib.Pow.{shr-shr, shl_exact}
+use lib.Pow.{shl_exact}
 use mir.Syntax.{w64}
 use Rattle.std.proofs.lemmas.Nat.Bits.{bit_at_and, bit_at_or, bit_at_not, bit_at-zero}
-use Rattle.std.proofs.lemmas.Nat.Bits.{bit_at-pow_same, bit_at-pow_other, bit_at_above, bit_at-trailing_zeros}
+use Rattle.std.proofs.lemmas.Nat.Bits.{bit_at-pow_same, bit_at-pow_other, bit_at-trailing_zeros}
 use Rattle.bits.specs.Internal.Bit.{has}
 
 -- What holds of any two digits.
@@ -66,14 +64,6 @@ has_one k i l = rw (shl_exact {a = 1} 1 k 64 (omega arith) (omega arith), one-mu
     go : (b : Bool) → eqb i k ≡ b → eqb (2 ^ k / 2 ^ i % 2) 1 ≡ b
     go true same = rw (eqb-true i k same, bit_at-pow_same k)
     go false other = rw (bit_at-pow_other k i (eqb-false i k other))
-
-pub has_shifted : (word k i : ℕ) → has (word / 2 ^ k) i ≡ has word (k + i)
-unfolding has
-has_shifted word k i = rw (shr-shr word k i)
-
-pub none_above : (k word i : ℕ) → word < 2 ^ k → k ≤ i → has word i ≡ false
-unfolding has
-none_above k word i l above = rw (bit_at_above word k i l above)
 
 pub first_has :
     (word : ℕ) → (word ≡ 0 → ⊥) → word < 2 ^ 64 →

@@ -10,9 +10,8 @@ mod wind;
 mod words;
 
 use job_file::FileCounts;
-use job_tool::{JobBytes, StandardError, write_name, write_refusal, write_unread};
+use job_tool::{write_name, write_refusal};
 use std::io;
-use std::rt::{Env, Files};
 
 fn main(rt: HostRuntime) -> io::Result<()> {
     let count = job_tool::argument_count(&rt);
@@ -20,25 +19,12 @@ fn main(rt: HostRuntime) -> io::Result<()> {
         return answer_for(&rt, &job_tool::read_input(&rt), true);
     }
     for i in 1..count {
-        check_argument(&rt, i, count == 2)?;
+        job_tool::with_file(&rt, i, |file| {
+            write_name(&rt, i)?;
+            answer_for(&rt, file, count == 2)
+        })?;
     }
     Ok(())
-}
-
-// Answers for the file that argument `i` names, or says that it was not opened or not read.
-fn check_argument<R: Env + Files + Print + StandardError>(
-    rt: &R,
-    i: usize,
-    is_single: bool,
-) -> io::Result<()> {
-    let mut file = JobBytes::new();
-    match job_tool::read_argument(rt, i, &mut file) {
-        Ok(()) => {
-            write_name(rt, i)?;
-            answer_for(rt, &file, is_single)
-        }
-        Err(unread) => write_unread(rt, i, unread),
-    }
 }
 
 // The line `accepted GLASSES PANES` or `refused NUMBER OFFSET`; and of a single file that is refused, why and on which line.

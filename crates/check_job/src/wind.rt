@@ -33,8 +33,8 @@ impl fmt::Display for WindFault {
 pub(crate) fn line_fault(file: &[u8], offset: usize) -> Option<WindFault>
     ensures { result ≡ line_fault (line (only letter_q) 9 (drop offset file.now)) }
 {
-    let (numbers, _) = read_line::<9>(&file[offset.min(file.len())..], b'Q')?;
-    fault_of(numbers[7], numbers[8])
+    let ([.., class, zone], _) = read_line::<9>(&file[offset.min(file.len())..], b'Q')?;
+    fault_of(class, zone)
 }
 
 // What is wrong with a class and a zone, by the reader's own test.

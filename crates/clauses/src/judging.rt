@@ -11,8 +11,8 @@ use job_pane::Pane;
 use point_load::PointLoad;
 use uniform_load::UniformLoad;
 
-// Whether a glass may be used for a pane, and if not, by which clause: a number from 1 to 4, as document 01 counts the clauses and the
-// library for C answers them.
+// Whether a glass may be used for a pane, and if not, by which clause, from 1 to 4. Document 01 names this form: the enum carries the
+// clause's number.
 #[derive(Clone, Copy, PartialEq, Eq)]
 pub enum Verdict {
     Passes,

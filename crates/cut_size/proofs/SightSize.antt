@@ -4,7 +4,7 @@ use Prim.Native.Nat.{min, max}
 use mathlib.Core.Path.{sym, ◌∙◌}
 use native.Mathlib.Omega.{arith}
 use borrow.Author.Tests.{ltb-false}
-use Rattle.basics.proofs.Tests.{both_false}
+use Rattle.std.proofs.lemmas.Bool.{or_parts}
 use Rattle.job_glass.specs.declared.Glass.{Glass}
 use Rattle.job_pane.specs.declared.Pane.{Pane}
 use Rattle.cut_size.specs.EdgeCover.{edge_cover}
@@ -15,7 +15,7 @@ use Rattle.cut_size.proofs.Ways.{no_side_longer, too_small_is, by_sides}
 pub passes_by_sight : (p : Pane) (g : Glass) → PassesBySight p g
 passes_by_sight p g e =
     let cover = edge_cover g.thick in
-    let t = both_false _ _ (by_sides p g ∙ e) in
+    let t = or_parts _ _ (by_sides p g ∙ e) in
     let shorter = ltb-false (min g.w g.h) (cut_side (min p.w p.h) cover) t.0 in
     let longer = ltb-false (max g.w g.h) (cut_side (max p.w p.h) cover) t.1 in
     sym (too_small_is p.w p.h g.w g.h)

@@ -9,7 +9,7 @@ use mathlib.Core.Bool.{Bool, true, false, not, ◌&&◌, ◌||◌}
 use native.Mathlib.Omega.{arith}
 use lib.Dec.{leb, ltb}
 use borrow.Author.Tests.{ltb-false}
-use Rattle.basics.proofs.Tests.{both_false}
+use Rattle.std.proofs.lemmas.Bool.{or_parts}
 use Rattle.job_glass.specs.declared.Glass.{Glass}
 use Rattle.job_pane.specs.declared.Pane.{Pane}
 use Rattle.cut_size.specs.EdgeCover.{edge_cover}
@@ -45,7 +45,7 @@ module _ (w h sheet_w sheet_h : ℕ) where
       go true long e is = sym is ∙ one_way e
       go false true e is = refl
       go false false e is =
-          let none = both_false too_narrow too_low is in
+          let none = or_parts too_narrow too_low is in
           sym e ∙ some_way (ltb-false _ _ none.0) (ltb-false _ _ none.1)
 
 pub by_sides :

@@ -10,7 +10,7 @@ use borrow.Author.Tests.{eqb-true, le-leb, lt-leb, leb-true, leb-false}
 use lib.Dec.{leb, eqb}
 use lib.ListN.{get_or}
 use Rattle.std.proofs.lemmas.List.{get_or_past}
-use Rattle.basics.proofs.Tests.{both_true}
+use Rattle.std.proofs.lemmas.Bool.{and_parts}
 use Rattle.ranges.specs.Internal.Counts.{all_to}
 use Rattle.ranges.proofs.All.{all_at}
 use Rattle.dead_loads.specs.DeadLoads.{LoadRow, dead_loads, no_row, at_or_below, at_or_above, maximum_at, minimum_at}
@@ -46,7 +46,7 @@ all_in_place = refl
 
 within : (angle : ℕ) → angle ≤ 75 → InPlace angle
 within angle h =
-    let passed = both_true _ _ (all_at is_in_place 76 all_in_place angle (omega arith)) in
+    let passed = and_parts _ _ (all_at is_in_place 76 all_in_place angle (omega arith)) in
     record { max_is = eqb-true _ _ passed.0; min_is = eqb-true _ _ passed.1 }
 
 -- Of rows none of which is above 75 degrees, the last is the one next below a larger angle, and none is above it.
@@ -62,14 +62,14 @@ module _ (angle : ℕ) (h : 75 < angle) where
   last_below : (before : LoadRow) (rows : List LoadRow) → are_low rows ≡ true → at_or_below angle before rows ≡ last_row before rows
   last_below before [] e = refl
   last_below before (r ∷ rows) e =
-      let low = both_true (leb r.angle 75) (are_low rows) e in
+      let low = and_parts (leb r.angle 75) (are_low rows) e in
       let first = leb-true r.angle 75 low.0 in
       rw (le-leb r.angle angle (omega (arith, first))) (last_below r rows low.1)
 
   none_above : (rows : List LoadRow) → are_low rows ≡ true → at_or_above angle rows ≡ no_row
   none_above [] e = refl
   none_above (r ∷ rows) e =
-      let low = both_true (leb r.angle 75) (are_low rows) e in
+      let low = and_parts (leb r.angle 75) (are_low rows) e in
       let first = leb-true r.angle 75 low.0 in
       rw (lt-leb angle r.angle (omega (arith, first))) (none_above rows low.1)
 

@@ -33,7 +33,7 @@ static DEAD_LOADS: [[u32; 2]; 16] = [
 ];
 
 // The dead load at an angle: the maximum of the row at or next below it, and the minimum of the row at or next above it. Above 75
-// degrees, which no file has, there is none above.
+// degrees, which no file has, there is none above. Tried `map_or` and `unwrap_or` for that row: the proof closes with `match` alone.
 #[tactic(auto, using(crate::proofs::DeadLoads::in_place))]
 pub fn dead_load_at(angle: u32) -> DeadLoad
     ensures { result ≡ dead_load_at angle }

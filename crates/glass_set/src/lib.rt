@@ -1,6 +1,7 @@
 // A set of glasses as a word of 64 bits: document 01, "The placing". Bit g is that of the glass at place g of the file. Built and
 // tested by shifts and masks; every promise is on each bit, as specs/Internal/Member.antt defines. The words have no type of their
-// own, since document 01 names them: rows of words, shifts and masks.
+// own, since document 01 names them: rows of words, shifts and masks. Nor has the place of a glass, which each loop over glasses would
+// make from its count: that it is below 64 is asked where a bit is shifted.
 #![tactic(auto)]
 
 ghost use Rattle.std.specs.Prelude.{◌≡◌, not, ◌&&◌, ◌||◌, ◌<◌, eqb, MatchOption};
@@ -40,20 +41,16 @@ pub fn without(set: u64, glass: usize) -> u64
     set & !(1 << glass)
 }
 
-// The first glass of a set that is not empty.
-#[tactic(auto, using(bits::proofs::Bits::first_has, bits::proofs::Bits::none_below))]
-pub fn first(set: u64) -> usize
-    requires { set ≡ 0 → ⊥ }
-    ensures { Lowest set result }
-{
-    u64::trailing_zeros(set) as usize
-}
-
 // The first glass of a set, if it has one.
+#[tactic(auto, using(bits::proofs::Bits::first_has, bits::proofs::Bits::none_below))]
 pub fn find_first(set: u64) -> Option<usize>
     ensures { MatchOption result (set ≡ 0) (Lowest set) }
 {
-    if set == 0 { None } else { Some(first(set)) }
+    if set == 0 {
+        None
+    } else {
+        Some(set.trailing_zeros() as usize)
+    }
 }
 
 // Whether every glass of a set is in another.

@@ -6,7 +6,7 @@ ghost use Rattle.job_file.specs.Internal.Steps.{PartsFound};
 use crate::trailer::read_trailer;
 use causes::{Cause, Refusal};
 
-// The offsets at which the glass part, the pane part and the trailer begin.
+// The offsets at which the glass part, the pane part and the trailer begin. They are no slices: a refusal says where in the file it is.
 #[derive(Drop)]
 pub(crate) struct Parts {
     pub glass: usize,

@@ -16,17 +16,14 @@ pub(crate) fn read_trailer(bytes: &[u8]) -> Option<(usize, usize)>
     }
 }
 
-// The number that five bytes make, where all of them are digits. `parse` is no plainer: it takes a sign, so each byte
-// would be asked all the same.
+// The number that five bytes make, where all of them are digits. `parse` is no plainer: it takes a sign, so each byte would be asked all
+// the same.
 fn five_digits(bytes: [u8; 5]) -> Option<usize>
     ensures { result ≡ as_digits bytes }
 {
     let mut number = 0;
     for byte in bytes {
-        if !byte.is_ascii_digit() {
-            return None;
-        }
-        number = number * 10 + (byte - b'0') as usize;
+        number = number * 10 + char::from(byte).to_digit(10)? as usize;
     }
     Some(number)
 }

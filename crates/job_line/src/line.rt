@@ -21,12 +21,9 @@ pub fn read_line<const N: usize>(bytes: &[u8], letter: u8) -> Option<([u32; N], 
     Some((numbers, rest))
 }
 
-// The bytes behind a byte, where it comes next.
+// The bytes behind a byte, where it comes next: `strip_prefix`, with a contract of the one byte.
 fn behind_byte(bytes: &[u8], byte: u8) -> Option<&[u8]>
     ensures { MatchOption result ((rest : List ℕ) → bytes.now ≢ byte ∷ rest) (λ rest. bytes.now ≡ byte ∷ rest.now) }
 {
-    match bytes.split_first() {
-        Some((first, rest)) if *first == byte => Some(rest),
-        _ => None,
-    }
+    bytes.strip_prefix(&[byte])
 }

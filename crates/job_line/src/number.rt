@@ -15,7 +15,8 @@ pub(crate) fn read_number(bytes: &[u8]) -> Option<(u32, &[u8])>
     }
 }
 
-// The number that a digit and at most four more make.
+// The number that a digit and at most four more make. `parse` would have to be told how many bytes are digits, and they are looked at
+// for that.
 fn read_digits(first: u32, bytes: &[u8]) -> (u32, &[u8])
     requires { first ≤ 9 }
     ensures { found result.0 result.1.now ≡ digits 4 first bytes.now }
@@ -37,8 +38,7 @@ fn read_digit(bytes: &[u8]) -> Option<(u32, &[u8])>
     ensures value { as_found result ≡ digit bytes.now }
     ensures small { IfSome result (λ r. r.0 ≤ 9) }
 {
-    match bytes.split_first() {
-        Some((byte, rest)) if byte.is_ascii_digit() => Some(((*byte - b'0') as u32, rest)),
-        _ => None,
-    }
+    let (first, rest) = bytes.split_first()?;
+    let digit = char::from(*first).to_digit(10)?;
+    Some((digit, rest))
 }

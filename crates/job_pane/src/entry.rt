@@ -18,26 +18,22 @@ impl Entry for Pane {
     // A line of the letter `P`, or else of `Q`.
     #[tactic(auto, using(crate::proofs::Lines::by_letter))]
     fn read(bytes: &[u8]) -> Option<(Pane, &[u8])> {
-        match read_letter(bytes, b'P') {
-            None => read_letter(bytes, b'Q'),
-            line => line,
-        }
+        read_letter(bytes, b'P').or_else(|| read_letter(bytes, b'Q'))
     }
 
     fn id(&self) -> u32 {
         self.id
     }
 
-    // `&` has no branch, so the proof has one path.
     fn is_allowed(&self) -> bool {
         is_between(1, 9999, self.id)
-            & ((self.edges == 2) | (self.edges == 4))
-            & (self.angle <= 74)
-            & (self.awning <= 1)
-            & (self.top <= 99999)
-            & is_between(1, 5000, self.w)
-            & is_between(1, 5000, self.h)
-            & is_allowed_wind(self.wind)
+            && (self.edges == 2 || self.edges == 4)
+            && self.angle <= 74
+            && self.awning <= 1
+            && self.top <= 99999
+            && is_between(1, 5000, self.w)
+            && is_between(1, 5000, self.h)
+            && is_allowed_wind(self.wind)
     }
 }
 
@@ -50,6 +46,7 @@ fn read_letter(bytes: &[u8], letter: u8) -> Option<(Pane, &[u8])>
     Some((pane_of(letter, numbers), rest))
 }
 
+// The pane that a line of this letter says by its numbers. A `From` would be of the pair, which no reader would know by its name.
 fn pane_of(letter: u8, numbers: [u32; 9]) -> Pane
     ensures { result ≡ pane_of letter numbers }
 {

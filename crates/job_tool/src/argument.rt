@@ -1,14 +1,16 @@
 // The file that an argument names: specs/Internal/Leaves.antt.
+ghost use Rattle.std.specs.Prelude.{◌≡◌, ◌≤◌, ℕ, List, IfErr, IfOk, IfSome, Ok, length};
+ghost use Rattle.std.specs.Fn.{FnOnceReturnsAt};
 ghost use Rattle.job_tool.specs.Internal.Leaves.{Leaves};
 
 use crate::input::{JobBytes, read_full};
 use crate::words::{StandardError, say_failure};
 use std::env::{Env, FillError};
-use std::io::{Error, ErrorKind, Read};
+use std::io::{Error, ErrorKind};
 use std::rt::Files;
 use std::{fmt, fs, io, str};
 
-// The system's number for a name that is too long.
+// The system's number for a name that is too long, for the words that belong to it: no `ErrorKind` has them.
 const NAME_TOO_LONG: i32 = 36;
 
 // Why there is no file to go by.
@@ -34,15 +36,34 @@ impl fmt::Display for Unread {
 
 // How many arguments the program was started with, its own name among them.
 pub fn argument_count(rt: &impl Env) -> usize {
-    for i in 0..usize::MAX {
-        if let Err(FillError::NotPresent) = rt.arg(i, &mut []) {
-            return i;
-        }
-    }
-    usize::MAX
+    (0..usize::MAX)
+        .find(|i| matches!(rt.arg(*i, &mut []), Err(FillError::NotPresent)))
+        .unwrap_or(usize::MAX)
 }
 
-// Reads the file that argument `i` names. Why a file was not opened or not read is said on standard error.
+// What `step` gives of the bytes of the file that argument `i` names, of which there are at most as many as there is room for. None where
+// the file was not opened or not read, which a line says instead.
+pub fn with_file<R: Env + Files + Print + StandardError, T, F: FnOnce(&[u8]) -> io::Result<T>>(
+    rt: &R,
+    i: usize,
+    step: F,
+) -> io::Result<Option<T>>
+    requires { F.IsAlwaysCallable step }
+    ensures { IfOk result (λ given. IfSome given (λ t.
+        (file : List ℕ) × (length file ≤ 65536) × FnOnceReturnsAt F.FnOnce step file (Ok t))) }
+{
+    let mut file = JobBytes::new();
+    match read_argument(rt, i, &mut file) {
+        Ok(()) => Ok(Some(step(&file)?)),
+        Err(unread) => {
+            write_unread(rt, i, unread)?;
+            Ok(None)
+        }
+    }
+}
+
+// Reads the file that argument `i` names. Why a file was not opened or not read is said on standard error. The bytes are lent beside the
+// `Result`: what stands in them where no file was opened is promised, which a `Result` with the bytes in it could not say.
 pub fn read_argument<R: Env + Files + StandardError>(
     rt: &R,
     i: usize,
@@ -83,6 +104,7 @@ fn argument<'a>(rt: &impl Env, i: usize, text: &'a mut [u8; 4096]) -> &'a [u8] {
     }
 }
 
+// Reads the file of a name. Where a read of it fails, as where the name is a folder's, it is not read.
 fn read_named<R: Files + StandardError>(
     rt: &R,
     name: &[u8],
@@ -90,13 +112,23 @@ fn read_named<R: Files + StandardError>(
 ) -> Result<(), Unread>
     ensures { Leaves result file.old.items file.new.items }
 {
-    match open_named(rt, name) {
-        Ok(opened) => read_open(rt, opened, name, file),
-        Err(error) => {
-            say_failure(rt, name, error);
-            Err(Unread::NotOpened)
-        }
-    }
+    let opened = or_said(rt, name, Unread::NotOpened, open_named(rt, name))?;
+    or_said(rt, name, Unread::NotRead, read_full(opened, file))
+}
+
+// What a step with the file of this name gave. Where it failed, that is said, and the file is `unread`.
+fn or_said<T>(
+    rt: &impl StandardError,
+    name: &[u8],
+    unread: Unread,
+    given: io::Result<T>,
+) -> Result<T, Unread>
+    ensures { IfErr result (λ why. why ≡ unread) }
+{
+    given.map_err(|error| {
+        say_failure(rt, name, error);
+        unread
+    })
 }
 
 // Opens the file of a name. The library's files are named by text. A name that fills its buffer is too long to be opened, and may be
@@ -106,23 +138,5 @@ fn open_named<R: Files>(rt: &R, name: &[u8]) -> io::Result<R::File> {
         Ok(path) => fs::open(rt, path),
         Err(_) if name.len() < 4096 => Err(Error::from(ErrorKind::InvalidFilename)),
         Err(_) => Err(Error::from_raw_os_error(NAME_TOO_LONG)),
-    }
-}
-
-// Reads an open file. Where a read of it fails, as where the name is a folder's, it is not read.
-fn read_open(
-    rt: &impl StandardError,
-    opened: impl Read + Drop,
-    name: &[u8],
-    file: &mut JobBytes,
-) -> Result<(), Unread>
-    ensures { Leaves result file.old.items file.new.items }
-{
-    match read_full(opened, file) {
-        Ok(()) => Ok(()),
-        Err(error) => {
-            say_failure(rt, name, error);
-            Err(Unread::NotRead)
-        }
     }
 }

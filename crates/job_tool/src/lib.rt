@@ -7,7 +7,7 @@ mod input;
 mod words;
 
 pub use argument::{
-    Unread, argument_count, read_argument, write_argument, write_name, write_unread,
+    Unread, argument_count, read_argument, with_file, write_argument, write_name, write_unread,
 };
 pub use input::{JobBytes, read_input};
 pub use words::{StandardError, write_refusal};

@@ -7,21 +7,19 @@ use job_tool::{write_argument, write_name, write_refusal};
 use std::env::Env;
 use std::io;
 
-// A file with the place of its name among the arguments, which are `count`. The ids that are asked for stand from argument `next`
-// on.
+// A file with the place of its name among the arguments, which are `count`. The ids that are asked for stand behind the name.
 #[derive(Clone, Copy)]
 pub(crate) struct Asked<'a, R> {
     pub(crate) rt: &'a R,
     pub(crate) file: &'a [u8],
     pub(crate) name: usize,
-    pub(crate) next: usize,
     pub(crate) count: usize,
 }
 
 impl<R: Env + Print + Eprint> Asked<'_, R> {
     // Answers for the ids behind the name, or, where there are none, for all that the file has.
     pub(crate) fn answer(&self) -> io::Result<()> {
-        if is_id(self.rt, self.next) {
+        if is_id(self.rt, self.name.saturating_add(1)) {
             self.answer_pairs()
         } else {
             self.answer_all()
@@ -30,13 +28,11 @@ impl<R: Env + Print + Eprint> Asked<'_, R> {
 
     // Answers for the ids two by two, up to the next name.
     fn answer_pairs(&self) -> io::Result<()> {
-        for i in self.next..self.count {
-            if !is_id(self.rt, i) {
-                return Ok(());
-            }
-            if (i - self.next) % 2 == 0 {
-                self.answer_pair(i, i + 1)?;
-            }
+        let ids = (self.name..self.count)
+            .skip(1)
+            .take_while(|i| is_id(self.rt, *i));
+        for pane in ids.step_by(2) {
+            self.answer_pair(pane, pane.saturating_add(1))?;
         }
         Ok(())
     }

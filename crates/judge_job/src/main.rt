@@ -13,9 +13,7 @@ mod words;
 
 use arguments::is_id;
 use asked::Asked;
-use job_tool::{JobBytes, StandardError, write_unread};
 use std::io;
-use std::rt::{Env, Files};
 
 fn main(rt: HostRuntime) -> io::Result<()> {
     let count = job_tool::argument_count(&rt);
@@ -25,33 +23,16 @@ fn main(rt: HostRuntime) -> io::Result<()> {
     }
     for name in 1..count {
         if !is_id(&rt, name) {
-            judge_named(&rt, name, name + 1, count)?;
+            job_tool::with_file(&rt, name, |file| {
+                Asked {
+                    rt: &rt,
+                    file,
+                    name,
+                    count,
+                }
+                .answer()
+            })?;
         }
     }
     Ok(())
-}
-
-// Answers for the file that argument `name` names, whose ids stand from argument `next` on, or says that it was not opened or
-// not read.
-fn judge_named<R: Env + Files + Print + StandardError>(
-    rt: &R,
-    name: usize,
-    next: usize,
-    count: usize,
-) -> io::Result<()> {
-    let mut bytes = JobBytes::new();
-    match job_tool::read_argument(rt, name, &mut bytes) {
-        Ok(()) => {
-            let file = &bytes;
-            Asked {
-                rt,
-                file,
-                name,
-                next,
-                count,
-            }
-            .answer()
-        }
-        Err(unread) => write_unread(rt, name, unread),
-    }
 }

@@ -22,6 +22,7 @@ fn explain_refusal(rt: &impl Eprint, cause: Cause) {
     };
 }
 
+// The clause is a number, since `Verdict::Fails(u32)` is the form that document 01 names.
 fn explain_clause(rt: &impl Eprint, clause: u32) {
     let _ = match clause {
         1 => eprintln!(rt;
@@ -43,7 +44,7 @@ fn explain_clause(rt: &impl Eprint, clause: u32) {
     };
 }
 
-// By how much a sheet of this thickness must exceed the sight size.
+// By how much a sheet of this thickness must exceed the sight size. The thickness is a number of the line, as in job_glass's `Glass`.
 #[derive(Clone, Copy)]
 struct Excess(u32);
 

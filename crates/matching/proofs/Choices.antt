@@ -7,7 +7,8 @@ use mathlib.Core.Path.{◌≡◌, refl, sym, ◌∙◌}
 use mathlib.Core.Bool.{Bool, true, false, not, ◌&&◌, ◌||◌}
 use lib.Dec.{eqb}
 use borrow.Author.Tests.{eq-eqb, not-true}
-use Rattle.basics.proofs.Tests.{differ, both_true}
+use Rattle.std.proofs.lemmas.Bool.{and_parts}
+use Rattle.basics.proofs.Tests.{differ}
 use Rattle.glass_set.specs.Internal.Member.{has, Members, Within, unvisited}
 use Rattle.glass_set.proofs.Members.{has_none, unvisited_less}
 use Rattle.matching.specs.Internal.Steps.{Unseen}
@@ -17,7 +18,7 @@ use Rattle.matching.proofs.Growth.{within_with}
 module _ (row set rest : ℕ) (is : Members rest (λ g. has row g && not (has set g))) where
   pub rest_at : (g : ℕ) → g < 64 → has rest g ≡ true → (has row g ≡ true) × Unseen set g
   rest_at g l e =
-      let h = both_true (has row g) (not (has set g)) (sym (is g l) ∙ e) in
+      let h = and_parts (has row g) (not (has set g)) (sym (is g l) ∙ e) in
       (h.0, record { below = l; out = not-true (has set g) h.1 })
 
   pub rest_none : rest ≡ 0 → Within row set
@@ -36,7 +37,7 @@ module _ (row spare seen some at_hand_set : ℕ) (both : Members some (λ g. has
       (g : ℕ) → g < 64 → has at_hand_set g ≡ true → (has row g ≡ true) × (has spare g ≡ true) × Unseen seen g
   at_hand g l e =
       let h = rest_at some seen at_hand_set is g l e in
-      let k = both_true (has row g) (has spare g) (sym (both g l) ∙ h.0) in
+      let k = and_parts (has row g) (has spare g) (sym (both g l) ∙ h.0) in
       (k.0, k.1, h.1)
 
   pub none_at_hand : at_hand_set ≡ 0 → (g : ℕ) → Unseen seen g → has row g ≡ true → has spare g ≡ false

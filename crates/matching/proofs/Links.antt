@@ -12,12 +12,13 @@ use mathlib.Core.Logic.{◌⊎◌, inl, inr}
 use mathlib.Core.Bool.{true, false, not}
 use mathlib.Core.List.{List}
 use Rattle.std.specs.Prelude.{Option, Some}
+use Rattle.std.proofs.lemmas.Bool.{cases_eq}
 use native.Mathlib.Omega.{arith}
 use lib.Dec.{eqb}
 use lib.ListN.{length, set}
 use borrow.Author.Tests.{eq-eqb}
 use Rattle.ranges.specs.Internal.Counts.{one, count_to}
-use Rattle.basics.proofs.Tests.{differ, same_or_not}
+use Rattle.basics.proofs.Tests.{differ}
 use Rattle.ranges.proofs.Sums.{sum_at}
 use Rattle.ranges.proofs.Counts.{one_le, count_none}
 use Rattle.glass_set.proofs.Members.{unvisited_most}
@@ -65,7 +66,7 @@ module _ (before mid : List (Option ℕ)) (pane glass n : ℕ) where
   module _ (long : pane < length mid) (twice : NoGlassTwice before mid n)
       (fresh : (p : ℕ) → p < n → is_moved before mid p ≡ true → way_of mid p ≡ glass → ⊥) where
     pub twice_more : NoGlassTwice before (set mid pane (Some glass)) n
-    twice_more p q l k moved moved' same = go (same_or_not p pane) (same_or_not q pane)
+    twice_more p q l k moved moved' same = go (cases_eq p pane) (cases_eq q pane)
       where
         there : (p : ℕ) → (p ≡ pane → ⊥) → way_of (set mid pane (Some glass)) p ≡ way_of mid p
         there p other = way_there mid pane p glass other

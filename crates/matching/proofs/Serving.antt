@@ -8,12 +8,13 @@ use mathlib.Core.Logic.{◌⊎◌, inl, inr}
 use mathlib.Core.Bool.{Bool, true, false, ◌||◌}
 use mathlib.Core.List.{List}
 use Rattle.std.specs.Prelude.{Option, Some}
+use Rattle.std.proofs.lemmas.Bool.{cases_eq}
 use native.Mathlib.Omega.{arith}
 use lib.Dec.{eqb}
 use lib.ListN.{length, get_or, set}
 use borrow.Author.Tests.{ne_eqb}
 use Rattle.ranges.specs.Internal.Counts.{one}
-use Rattle.basics.proofs.Tests.{differ, same_or_not}
+use Rattle.basics.proofs.Tests.{differ}
 use Rattle.ranges.proofs.Sums.{sum_at}
 use Rattle.glass_set.specs.Internal.Member.{has, Members, Within}
 use Rattle.glass_set.proofs.Members.{within_trans, unvisited_le, unvisited_some}
@@ -51,7 +52,7 @@ module _ (rows : List ℕ) (before : List (Option ℕ)) (pane spare seen : ℕ) 
           last_unseen = unseen;
           last_spare = at_hand;
           counts = holding_set rows before pane glass s.same_length s.of_rows;
-          each = λ p l. go has_unseen has_passing p (same_or_not p pane);
+          each = λ p l. go has_unseen has_passing p (cases_eq p pane);
           no_glass_twice =
               twice_more before before pane glass (length rows) (omega (arith, s.same_length, s.of_rows))
               (none_twice before (length rows))
@@ -120,7 +121,7 @@ module _ (rows : List ℕ) (before : List (Option ℕ)) (pane spare seen : ℕ) 
                   let given = holding_set rows mid pane glass (long ∙ s.same_length) s.of_rows g in
                   let given' = rw pane_stays at given in
                   omega (arith, given', freed.counts g);
-              each = λ p l. go has_unseen has_passing p (same_or_not p pane) (freed.each p l);
+              each = λ p l. go has_unseen has_passing p (cases_eq p pane) (freed.each p l);
               no_glass_twice =
                   twice_more before mid pane glass (length rows) (omega (arith, long, s.same_length, s.of_rows))
                   freed.no_glass_twice new_glass;
@@ -157,7 +158,7 @@ module _ (rows : List ℕ) (before : List (Option ℕ)) (pane spare seen : ℕ) 
         Grown rows before spare seen now
     serve_on after now none g f = record {
       keeps = within_trans seen with_glass now wider f.grown.keeps;
-      exhausted = λ i l e out. go i l e out (has marked i) refl (same_or_not i glass);
+      exhausted = λ i l e out. go i l e out (has marked i) refl (cases_eq i glass);
     }
       where
         marked_now : Within marked now

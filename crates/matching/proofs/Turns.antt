@@ -10,13 +10,14 @@ use mathlib.Core.Logic.{◌⊎◌, inl, inr}
 use mathlib.Core.Bool.{Bool, true, false}
 use mathlib.Core.List.{List}
 use Rattle.std.specs.Prelude.{Option}
+use Rattle.std.proofs.lemmas.Bool.{cases_eq}
 use native.Mathlib.Omega.{arith}
 use lib.Dec.{ltb, eqb}
 use lib.ListN.{length, get_or, set, length-set}
 use lib.Seq.{get_or-set_same, get_or-set_other}
 use borrow.Author.Tests.{eq-eqb, ne_eqb, ltb-true, ltb-false}
 use Rattle.ranges.specs.Internal.Counts.{one}
-use Rattle.basics.proofs.Tests.{differ, same_or_not, one_more}
+use Rattle.basics.proofs.Tests.{differ, one_more}
 use Rattle.glass_set.specs.Internal.Member.{has, Members, Within}
 use Rattle.glass_set.proofs.Members.{within_trans}
 use Rattle.matching.specs.Internal.Rows.{way_of}
@@ -94,7 +95,7 @@ module _
         left_there g other = get_or-set_other left last g (get_or left last 0 - 1) 0 other
 
         counted_after : (g : ℕ) → g < 64 → holding rows after g + get_or (taken_from left last) g 0 ≡ get_or sheets g 0
-        counted_after g l = go (same_or_not g last)
+        counted_after g l = go (cases_eq g last)
           where
             counts : holding rows after g ≡ holding rows held g + one (eqb last g)
             counts =
@@ -119,7 +120,7 @@ module _
           counted = counted_after;
           suits = λ p l. suited p l (m.chain.each p l);
           waiting = λ p k l. waits_on p k l (m.chain.each p l);
-          all_given = λ g l e. given g l e (same_or_not g last);
+          all_given = λ g l e. given g l e (cases_eq g last);
           holders = λ p l h. kept p l h (m.chain.each p l);
           left_over =
               one_more (λ p. p < length rows → way_of after p ≡ 64 → Within (get_or rows p 0) tight) next

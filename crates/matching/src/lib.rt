@@ -19,7 +19,8 @@ use stock::Stock;
 // tight glasses: the panes that can have none but these are more than their sheets by as many as have no glass. It is empty where
 // every pane has one.
 //
-// The rows and what the panes hold stay two lists, by a form that document 01 names: a row is one word a pane, and is only read.
+// The rows and what the panes hold stay two lists, by a form that document 01 names: a row is one word a pane, and is only read. The panes
+// are gone through by number, which is what a search is given.
 pub fn match_panes(rows: &[u64], sheets: [u32; 64], held: &mut [Option<usize>]) -> u64
     requires { length held.old ≡ length rows.now }
     ensures { Greatest (task_of rows.now sheets) (way_of held.new) (has result) }

@@ -14,7 +14,8 @@ pub struct Stuck {
 }
 
 // What a search reads: a row for each pane, and the glasses with a sheet to spare. The glasses that panes hold, which it changes,
-// are lent beside it: were they a field, each call would have to promise that the rows and the spare glasses stay.
+// are lent beside it: were they a field, each call would have to promise that the rows and the spare glasses stay. The glasses seen are an
+// argument too, since each call is given more of them and hands them back in `Stuck`.
 #[derive(Clone, Copy)]
 pub struct Search<'a> {
     pub rows: &'a [u64],
@@ -46,7 +47,8 @@ impl Search<'_> {
         Err(Stuck { seen: marked })
     }
 
-    // Takes one of the panes that hold a glass over to another glass, which is not in `seen`.
+    // Takes one of the panes that hold a glass over to another glass, which is not in `seen`. The panes are gone through by number, since
+    // each search may change what they hold.
     #[cycle(free_serve)]
     pub fn free(&self, held: &mut [Option<usize>], glass: usize, seen: u64) -> Result<usize, Stuck>
         requires { Freeable self.now.rows.now held.old glass seen }

@@ -53,7 +53,8 @@ impl Stock {
     }
 }
 
-// The glasses of which there is a sheet.
+// The glasses of which there is a sheet. The row of a pane is made so too, by verdicts: a function of any test would promise by how its
+// closure is called, and be no plainer than the two loops.
 #[tactic(auto, using(glass_set::proofs::Members::has_none))]
 fn with_a_sheet(sheets: &[u32; 64]) -> u64
     ensures { Members result (λ g. ltb 0 (get_or sheets.now g 0)) }

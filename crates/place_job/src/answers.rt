@@ -1,58 +1,62 @@
 // The rules on the answers: placed counts those that are not 0; no glass is given more often than it has sheets; each answer
 // other than 0 is a glass that passes for its pane; where a pane has 0, the sheets of all its passing glasses are given away;
-// later entries are unchanged.
-use crate::job::Job;
-use crate::lists::{Lists, is_kept};
-use crate::rules::Rule;
-use std::array;
+// later entries are unchanged. 0 stands for no glass in the lists that document 01 and C have.
+use crate::rules::{Placed, Rule};
 
-pub(crate) fn check_answers(job: &Job, placed: usize, lists: &Lists) -> Result<(), Rule> {
-    let answers = &lists.answers;
-    let given = answers
-        .iter()
-        .take(job.panes.len())
-        .filter(|id| **id != 0)
-        .count();
-    Rule::Placed.check(placed == given)?;
-    let left = sheets_left(job, answers)?;
-    Rule::Answers.check(are_passing(job, answers))?;
-    Rule::Spare.check(!is_sheet_spare(job, answers, &left))?;
-    Rule::LaterEntries.check(is_kept(&lists.before, answers, job.panes.len()))
-}
-
-// How many sheets of each glass are left, where each pane takes a sheet of the glass that is its answer and passes for it.
-fn sheets_left(job: &Job, answers: &[u32]) -> Result<[u32; 64], Rule> {
-    let mut left: [u32; 64] = array::from_fn(|i| job.glasses.get(i).map_or(0, |glass| glass.stock));
-    for (pane, answer) in job.panes.iter().zip(answers) {
-        for ((glass, passes), left) in job.glasses.iter().zip(pane.passes).zip(left.iter_mut()) {
-            if passes && *answer == glass.id {
-                *left = left.checked_sub(1).ok_or(Rule::Stock)?;
-            }
-        }
+impl Placed<'_> {
+    pub(crate) fn check_answers(&self) -> Result<(), Rule> {
+        let pane_count = self.job.panes.len();
+        let given = self
+            .lists
+            .answers
+            .after
+            .iter()
+            .take(pane_count)
+            .filter(|id| **id != 0)
+            .count();
+        Rule::Placed.check(self.counts.placed == given)?;
+        Rule::Stock.check(self.are_within_stocks())?;
+        Rule::Answers.check(self.are_passing())?;
+        Rule::Spare.check(!self.is_sheet_spare())?;
+        Rule::LaterEntries.check(self.lists.answers.is_kept(pane_count))
     }
-    Ok(left)
-}
 
-// Whether each answer other than 0 is a glass that passes for its pane.
-fn are_passing(job: &Job, answers: &[u32]) -> bool {
-    job.panes.iter().zip(answers).all(|(pane, answer)| {
-        *answer == 0
-            || job
-                .glasses
-                .iter()
-                .zip(pane.passes)
-                .any(|(glass, passes)| passes && glass.id == *answer)
-    })
-}
+    // How many panes have a glass as their answer that passes for them.
+    fn times_given(&self, glass: u32) -> usize {
+        self.job
+            .panes
+            .iter()
+            .zip(&self.lists.answers.after)
+            .filter(|(pane, answer)| **answer == glass && pane.passing.contains(&glass))
+            .count()
+    }
 
-// Whether a pane has 0 though a glass that passes for it has a sheet left.
-fn is_sheet_spare(job: &Job, answers: &[u32], left: &[u32; 64]) -> bool {
-    job.panes.iter().zip(answers).any(|(pane, answer)| {
-        *answer == 0
-            && pane
-                .passes
-                .iter()
-                .zip(left)
-                .any(|(passes, left)| *passes && 0 < *left)
-    })
+    // Whether no glass is given more often than it has sheets.
+    fn are_within_stocks(&self) -> bool {
+        self.job
+            .glasses
+            .iter()
+            .all(|glass| self.times_given(glass.id) <= glass.stock as usize)
+    }
+
+    // Whether each answer other than 0 is a glass that passes for its pane.
+    fn are_passing(&self) -> bool {
+        self.job.panes.iter().zip(&self.lists.answers.after).all(|(pane, answer)| {
+            *answer == 0 || pane.passing.contains(answer)
+        })
+    }
+
+    // Whether a glass has a sheet left though a pane has 0 that it passes for.
+    fn is_sheet_spare(&self) -> bool {
+        self.job.glasses.iter().any(|glass| {
+            self.times_given(glass.id) < glass.stock as usize && self.is_wanted(glass.id)
+        })
+    }
+
+    // Whether a pane has 0 that a glass passes for.
+    fn is_wanted(&self, glass: u32) -> bool {
+        self.job.panes.iter().zip(&self.lists.answers.after).any(|(pane, answer)| {
+            *answer == 0 && pane.passing.contains(&glass)
+        })
+    }
 }

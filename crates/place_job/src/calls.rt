@@ -1,7 +1,7 @@
 // The calls that a file is tried with, and the refusal that is due from each: document 01, "What each cause gives".
 use crate::job::Job;
-use crate::lists::{Filling, Length, Lists, is_kept};
-use crate::rules::{Outcome, Rule, check_result};
+use crate::lists::{Filling, Length, Lent, Lists};
+use crate::rules::{Outcome, Placed, Rule};
 use causes::{Cause, Refusal};
 use row_placing::PlaceCounts;
 
@@ -21,7 +21,7 @@ const PLAIN: Call = Call {
 };
 
 // Makes every call with a file, the plain one last.
-pub(crate) fn try_file(file: &[u8], job: &Job) -> Result<Outcome, Rule> {
+pub(crate) fn try_file(job: &Job) -> Result<Outcome, Rule> {
     for filling in Filling::ALL {
         for group in Length::ALL {
             for answers in Length::ALL {
@@ -31,24 +31,25 @@ pub(crate) fn try_file(file: &[u8], job: &Job) -> Result<Outcome, Rule> {
                     answers,
                 };
                 if call != PLAIN {
-                    call.try_with(file, job)?;
+                    call.try_with(job)?;
                 }
             }
         }
     }
-    PLAIN.try_with(file, job)
+    PLAIN.try_with(job)
 }
 
 impl Call {
     // Makes the call, and holds what comes of it to the rules. A refused call writes no list.
-    fn try_with(self, file: &[u8], job: &Job) -> Result<Outcome, Rule> {
-        let (placed, lists) = self.make(file, job);
+    fn try_with(self, job: &Job) -> Result<Outcome, Rule> {
+        let (placed, lists) = self.make(job);
         match (placed, self.due(job)) {
-            (Ok(counts), Ok(())) => check_result(job, counts, &lists),
+            (Ok(counts), Ok(())) => {
+                let lists = &lists;
+                Placed { job, counts, lists }.check()
+            }
             (Err(refusal), Err(due)) if refusal == due => {
-                let is_kept = is_kept(&lists.before, &lists.answers, 0)
-                    && is_kept(&lists.before, &lists.group, 0);
-                Rule::RefusedLists.check(is_kept)?;
+                Rule::RefusedLists.check(lists.answers.is_kept(0) && lists.group.is_kept(0))?;
                 Ok(Outcome::Refused(refusal))
             }
             _ => Err(Rule::Refusal),
@@ -56,22 +57,22 @@ impl Call {
     }
 
     // Makes the call with the first entries of two lists.
-    fn make(self, file: &[u8], job: &Job) -> (Result<PlaceCounts, Refusal>, Lists) {
-        let answers_length = self.answers.for_panes(job.panes.len());
-        let group_length = self.group.for_panes(job.panes.len());
+    fn make(self, job: &Job) -> (Result<PlaceCounts, Refusal>, Lists) {
+        let pane_count = job.panes.len();
         let before = self.filling.list(job);
-        let mut answers = before;
-        let mut group = before;
-        let placed = placing::place(
-            file,
-            &mut answers[..answers_length],
-            &mut group[..group_length],
-        );
-        let lists = Lists {
+        let lent = Lent {
             before,
-            answers,
-            group,
+            after: before,
         };
+        let mut lists = Lists {
+            answers: lent,
+            group: lent,
+        };
+        let placed = placing::place(
+            job.file,
+            &mut lists.answers.after[..self.answers.for_panes(pane_count)],
+            &mut lists.group.after[..self.group.for_panes(pane_count)],
+        );
         (placed, lists)
     }
 

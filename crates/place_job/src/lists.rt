@@ -1,10 +1,11 @@
 // The lists that a call is lent, and what stands in them before it and after it.
-ghost use Rattle.std.specs.Prelude.{◌≤◌};
+ghost use Rattle.std.specs.Prelude.{◌≤◌, ◌<◌};
 
 use crate::job::Job;
 use std::array;
 
-// The most entries that a list is lent with: more than a file can have panes.
+// The most entries that a list is lent with: more than a file can have panes. A list is lent as C lends one: fixed memory, of which a
+// call gets the first entries.
 pub(crate) const LONGEST: usize = 300;
 
 // What stands in a list before a call.
@@ -26,21 +27,25 @@ impl Filling {
         Filling::GlassIds,
     ];
 
-    // 256 entries or 64 to a turn, with 0 behind the last pane or glass.
     pub(crate) fn list(self, job: &Job) -> [u32; LONGEST] {
         match self {
             Filling::Zeros => [0; LONGEST],
             Filling::Largest => [u32::MAX; LONGEST],
-            Filling::PaneIds => array::from_fn(|i| job
-                .panes
-                .get(i % 256)
-                .map_or(0, |pane| pane.id)),
-            Filling::GlassIds => array::from_fn(|i| job
-                .glasses
-                .get(i % 64)
-                .map_or(0, |glass| glass.id)),
+            Filling::PaneIds => repeated(&job.panes, 256, |pane| pane.id),
+            Filling::GlassIds => repeated(&job.glasses, 64, |glass| glass.id),
         }
     }
+}
+
+// The ids of panes or of glasses again and again: `turn` entries to a turn, as many as a file can have, with 0 behind the last.
+fn repeated<T, F: Fn(&T) -> u32>(entries: &[T], turn: usize, id: F) -> [u32; LONGEST]
+    requires { (0 < turn) × F.IsAlwaysCallable id }
+{
+    array::from_fn(
+        |i|
+            requires { (0 < turn) × F.IsAlwaysCallable id }
+        { entries.get(i % turn).map_or(0, |entry| id(entry)) },
+    )
 }
 
 // How long a list is lent.
@@ -66,15 +71,23 @@ impl Length {
     }
 }
 
-// The two lists of a call: what stood in both before it, and what stands in each after it.
-#[derive(Drop)]
-pub(crate) struct Lists {
+// A list that a call is lent: what stood in it before, and what stands in it after.
+#[derive(Clone, Copy)]
+pub(crate) struct Lent {
     pub(crate) before: [u32; LONGEST],
-    pub(crate) answers: [u32; LONGEST],
-    pub(crate) group: [u32; LONGEST],
+    pub(crate) after: [u32; LONGEST],
 }
 
-// Whether a list is as before from the entry `from` on.
-pub(crate) fn is_kept(before: &[u32], after: &[u32], from: usize) -> bool {
-    before.get(from..) == after.get(from..)
+impl Lent {
+    // Whether the list is as before from the entry `from` on.
+    pub(crate) fn is_kept(&self, from: usize) -> bool {
+        self.before.get(from..) == self.after.get(from..)
+    }
+}
+
+// The two lists of a call.
+#[derive(Clone, Copy)]
+pub(crate) struct Lists {
+    pub(crate) answers: Lent,
+    pub(crate) group: Lent,
 }

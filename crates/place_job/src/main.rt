@@ -14,9 +14,8 @@ mod lists;
 mod rules;
 
 use job::Job;
-use job_tool::{JobBytes, StandardError};
+use job_tool::StandardError;
 use rules::{Outcome, Rule};
-use std::alloc::Global;
 use std::io;
 use std::rt::{Env, Files};
 
@@ -26,6 +25,7 @@ fn main(rt: HostRuntime) -> io::Result<()> {
         let _ = eprintln!(rt; "usage: place_job FILE..");
         return Ok(());
     }
+    // counted by hand, since each turn writes a line and may fail
     let mut jobs = 0u64;
     let mut wrong = 0u64;
     for i in 1..count {
@@ -40,23 +40,20 @@ fn main(rt: HostRuntime) -> io::Result<()> {
 }
 
 // Tries the file that argument `i` names and writes its line. None where the file was not opened or not read.
-fn try_argument<R: Alloc<A = Global> + Env + Files + Print + StandardError>(
+fn try_argument<R: Env + Files + Print + StandardError>(
     rt: &R,
     i: usize,
 ) -> io::Result<Option<Result<Outcome, Rule>>> {
-    let mut file = JobBytes::new();
-    if let Err(unread) = job_tool::read_argument(rt, i, &mut file) {
-        job_tool::write_unread(rt, i, unread)?;
-        return Ok(None);
-    }
-    job_tool::write_name(rt, i)?;
-    let job = Job::of(rt.alloc(), &file)?;
-    let tried = calls::try_file(&file, &job);
-    match tried {
-        Ok(Outcome::Full) => println!(rt; "full")?,
-        Ok(Outcome::Short(left_over)) => println!(rt; "short by {left_over}")?,
-        Ok(Outcome::Refused(refusal)) => job_tool::write_refusal(rt, refusal)?,
-        Err(rule) => println!(rt; "wrong: {rule}")?,
-    }
-    Ok(Some(tried))
+    job_tool::with_file(rt, i, |file| {
+        job_tool::write_name(rt, i)?;
+        let job = Job::of(file);
+        let tried = calls::try_file(&job);
+        match tried {
+            Ok(Outcome::Full) => println!(rt; "full")?,
+            Ok(Outcome::Short(left_over)) => println!(rt; "short by {left_over}")?,
+            Ok(Outcome::Refused(refusal)) => job_tool::write_refusal(rt, refusal)?,
+            Err(rule) => println!(rt; "wrong: {rule}")?,
+        }
+        Ok(tried)
+    })
 }

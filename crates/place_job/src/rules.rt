@@ -1,7 +1,5 @@
 // The rules that the result of a call keeps: document 01, "The placing", and document 02, 2026-04, on the order of the group, and
 // 2026-05, on the number placed.
-use crate::answers::check_answers;
-use crate::groups::{check_full_group, check_short_group};
 use crate::job::Job;
 use crate::lists::Lists;
 use causes::Refusal;
@@ -64,18 +62,28 @@ impl fmt::Display for Rule {
     }
 }
 
-// Holds the counts of a call, and the lists that it left, to the rules.
-pub(crate) fn check_result(job: &Job, counts: PlaceCounts, lists: &Lists) -> Result<Outcome, Rule> {
-    Rule::Wanted.check(counts.wanted == job.panes.len())?;
-    check_answers(job, counts.placed, lists)?;
-    match counts.wanted.saturating_sub(counts.placed) {
-        0 => {
-            check_full_group(counts.group, lists)?;
-            Ok(Outcome::Full)
-        }
-        left_over => {
-            check_short_group(job, left_over, counts.group, lists)?;
-            Ok(Outcome::Short(left_over))
+// What a call that was not refused left: its counts and its lists, beside the job that they are held against.
+#[derive(Clone, Copy)]
+pub(crate) struct Placed<'a> {
+    pub(crate) job: &'a Job<'a>,
+    pub(crate) counts: PlaceCounts,
+    pub(crate) lists: &'a Lists,
+}
+
+impl Placed<'_> {
+    // Holds it to the rules.
+    pub(crate) fn check(&self) -> Result<Outcome, Rule> {
+        Rule::Wanted.check(self.counts.wanted == self.job.panes.len())?;
+        self.check_answers()?;
+        match self.counts.wanted.saturating_sub(self.counts.placed) {
+            0 => {
+                self.check_full_group()?;
+                Ok(Outcome::Full)
+            }
+            left_over => {
+                self.check_short_group(left_over)?;
+                Ok(Outcome::Short(left_over))
+            }
         }
     }
 }

@@ -23,7 +23,8 @@ use row_placing::{PlaceCounts, place_rows};
 pub use rows::rows_of;
 
 // Writes the id of a glass, or 0, for each pane of a file, and the ids of a short group, from the lowest up, where a pane is left
-// with 0. The answer is the counts of the placing, or why nothing was placed.
+// with 0. The answer is the counts of the placing, or why nothing was placed. Answers and group go down to `place_rows` as two lists,
+// since C lends two.
 pub fn place(file: &[u8], answers: &mut [u32], group: &mut [u32]) -> Result<PlaceCounts, Refusal>
     ensures { Promised (outcome_of file.now)
         (call (placed_says result) answers.old answers.new group.old group.new) }

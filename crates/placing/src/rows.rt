@@ -13,7 +13,7 @@ use job_file::Job;
 use job_glass::Glass;
 use job_pane::Pane;
 
-// The row of each pane of a job.
+// The row of each pane of a job. They are pushed one by one: `collect` takes an allocator, and answers a `Result` whose error can't occur.
 pub fn rows_of(job: &Job) -> ArrayVec<u64, 256>
     ensures { JobRows (schedule_of (glasses_of job.now) (stocks_of (glasses_of job.now)) (panes_of job.now)) result.items }
 {
@@ -24,7 +24,8 @@ pub fn rows_of(job: &Job) -> ArrayVec<u64, 256>
     rows
 }
 
-// The set of the glasses that pass for a pane. What a verdict takes of the pane alone is worked out once.
+// The set of the glasses that pass for a pane. What a verdict takes of the pane alone is worked out once. The loop is that of
+// `with_a_sheet` in matching: a function of any test would promise by how its closure is called, and be no plainer than the two.
 fn row_of(pane: Pane, glasses: &[Glass]) -> u64
     requires { length glasses.now ≤ 64 }
     ensures { Members result (λ g. ltb g (length glasses.now) && passes_for pane (glass_at glasses.now g)) }

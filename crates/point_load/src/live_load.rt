@@ -2,7 +2,7 @@
 ghost use Rattle.std.specs.Prelude.{◌≡◌};
 ghost use Rattle.point_load.specs.LiveLoad.{live_load};
 
-// In tenths of a kN, by the angle from horizontal and whether it is an awning.
+// In tenths of a kN, by the angle from horizontal and whether it is an awning: a number of the pane's line, 1 where it is one.
 pub fn live_load(angle: u32, awning: u32) -> u32
     ensures { result ≡ live_load angle awning }
 {

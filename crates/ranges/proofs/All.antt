@@ -6,15 +6,16 @@ use mathlib.Core.Path.{◌≡◌, refl, ap, sym, ◌∙◌}
 use mathlib.Core.Logic.{◌⊎◌, inl, inr}
 use mathlib.Core.Bool.{Bool, true, false, ◌&&◌, and-false}
 use native.Mathlib.Omega.{arith}
+use Rattle.std.proofs.lemmas.Bool.{and_parts}
 use Rattle.ranges.specs.Internal.Counts.{all_to}
-use Rattle.basics.proofs.Tests.{both_true, last_or_below}
+use Rattle.basics.proofs.Tests.{last_or_below}
 
 module _ (test : ℕ → Bool) where
   pub all_at : (n : ℕ) → all_to test n ≡ true → (i : ℕ) → i < n → test i ≡ true
   unfolding all_to
   all_at zero e i l = absurd (omega arith)
   all_at (suc n) e i l =
-      let both = both_true (all_to test n) (test n) e in
+      let both = and_parts (all_to test n) (test n) e in
       go (last_or_below i n l) both.1 (λ k. all_at n both.0 i k)
     where
       go : (i ≡ n) ⊎ (i < n) → test n ≡ true → (i < n → test i ≡ true) → test i ≡ true

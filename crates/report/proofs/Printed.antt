@@ -9,8 +9,8 @@ use mathlib.Core.List.{List}
 use native.Mathlib.Nat.{min-le_right}
 use native.Mathlib.Omega.{arith}
 use lib.ListN.{length, get_or, take, length-take, length-map, get_or-map}
+use Rattle.std.proofs.lemmas.Bool.{cases_eq}
 use Rattle.basics.specs.Lent.{Lent}
-use Rattle.basics.proofs.Tests.{same_or_not}
 use Rattle.job_glass.specs.GlassLine.{blank_glass}
 use Rattle.job_glass.specs.declared.Glass.{Glass}
 use Rattle.job_pane.specs.PaneLine.{blank_pane}
@@ -74,7 +74,7 @@ module _
         go (inr p) = omega (arith, p.is_id, glass_short p.place p.within)
 
     group_short : FourDigits g.group_ids
-    group_short = go (same_or_not r.placed (length schedule.pane_ids))
+    group_short = go (cases_eq r.placed (length schedule.pane_ids))
       where
         of_panes : ShortGroup schedule g.group_ids → FourDigits g.group_ids
         of_panes s k l = let p = s.some_panes.of_panes k l in omega (arith, p.is_id, pane_short p.place p.within)

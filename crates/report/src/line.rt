@@ -1,4 +1,5 @@
-// Texts as they grow: numbers, fields of lines, and whole lines. Each function asks for room for the longest that it may write.
+// Texts as they grow: numbers, fields of lines, and whole lines. Each function asks for room for the longest that it may write, and that
+// its numbers have no more digits: each asks for another amount, so no type says it for all.
 ghost use Rattle.std.specs.Prelude.{◌≡◌, ◌+◌, ◌*◌, ◌≤◌, ◌∷◌, ◌++◌, length};
 ghost use Rattle.arrayvec.specs.ArrayString.{array_string_len};
 ghost use Rattle.job_line.specs.Bytes.{space};

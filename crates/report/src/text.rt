@@ -56,8 +56,8 @@ fn push_panes(text: &mut Text, panes: &[Pane], answers: &[u32])
     }
 }
 
-// The last line: the word `short` and the ids of a group. That they have four digits is asked of the list, here and above: a list of a
-// type that says so would be a copy of the one that the placing fills.
+// The last line: the word `short` and the ids of a group. That they have four digits is asked of the list, here, above and in
+// `push_fields`: a struct that lends the list with that fact would be made for these three calls, and each would take the list out of it.
 fn push_short(text: &mut Text, group: &[u32])
     requires { FourDigits group.now × (array_string_len text.old + (5 + (5 * length group.now + 1)) ≤ 4096) }
     ensures bytes { text.new.bytes ≡ text.old.bytes ++ text_line (bytes_of "short") group.now }

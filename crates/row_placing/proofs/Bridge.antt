@@ -14,20 +14,20 @@ use mathlib.Core.List.{List}
 use native.Mathlib.Nat.{eq-or-lt_of_le}
 use native.Mathlib.Omega.{arith}
 use lib.Dec.{ltb, eqb}
-use lib.ListN.{length, get_or, get_or-eq_default}
+use lib.ListN.{length, get_or, length-map, get_or-eq_default}
 use borrow.Author.Tests.{ltb-true, lt-ltb, ne_eqb}
 use Rattle.std.specs.Prelude.{Option}
-use Rattle.basics.proofs.Tests.{both_true}
+use Rattle.std.proofs.lemmas.Bool.{and_parts}
 use Rattle.ranges.proofs.Counts.{count_same}
 use Rattle.glass_set.specs.Internal.Member.{has}
 use Rattle.matching.specs.Internal.Matching.{given, served, Greatest}
 use Rattle.matching.specs.Internal.Rows.{task_of, way_of}
 use Rattle.row_placing.specs.Schedule.{Schedule}
-use Rattle.row_placing.specs.Internal.Entries.{entries_held}
+use Rattle.row_placing.specs.Internal.Entries.{entry_held, entries_held}
 use Rattle.row_placing.specs.Placing.{times, nonzero, PassingId, Placing, NoneToSpare}
 use Rattle.row_placing.specs.Internal.Holding.{PassingNumber}
 use Rattle.row_placing.specs.Internal.Stated.{Stated}
-use Rattle.row_placing.proofs.Entries.{held_long, held_at}
+use Rattle.row_placing.proofs.Entries.{held_at}
 use Rattle.row_placing.proofs.Ids.{times_count, nonzero_count, nonzero_le}
 use Rattle.row_placing.proofs.Numbers.{glass_test}
 
@@ -36,7 +36,7 @@ module _
   where
     glass_of_bit : (p g : ℕ) → p < length s.pane_ids → g < 64 → has (get_or rows p 0) g ≡ true → PassingNumber s p g
     glass_of_bit p g l k set =
-        let is = both_true (ltb g (length s.glass_ids)) (s.passes p g) (sym (b.rows_are p l g k) ∙ set) in
+        let is = and_parts (ltb g (length s.glass_ids)) (s.passes p g) (sym (b.rows_are p l g k) ∙ set) in
         record { within = ltb-true g (length s.glass_ids) is.0; passing = is.1 }
 
     pub bit_of_glass :
@@ -65,7 +65,7 @@ module _
         ids = entries_held s.glass_ids held
 
         rows_ids : length ids ≡ length rows
-        rows_ids = held_long s.glass_ids held ∙ long ∙ sym b.a_row_each
+        rows_ids = length-map held (entry_held s.glass_ids) ∙ long ∙ sym b.a_row_each
 
         id_at : (p : ℕ) → p < length s.pane_ids → get_or ids p 0 ≡ get_or s.glass_ids (way_of held p) 0
         id_at p l = held_at s.glass_ids held p b.known.few (omega arith)

@@ -1,27 +1,20 @@
 -- The entries of a list at some places, as a map over the places gives them.
---     entries_long    as many entries as places
---     entry_at        each of them
---     held_long, held_at, held_same    the same at places that are held: of two lists that agree there
+--     entry_at                each of them: they are as many as the places, by `length-map`
+--     held_at, held_same      the same at places that are held; of two lists that agree there
 use Prim.Native.Nat.{ℕ, zero, suc, ◌≤◌, ◌<◌}
 use mathlib.Core.Path.{◌≡◌, refl, sym, ◌∙◌}
 use mathlib.Core.List.{List, [], ◌∷◌}
 use native.Mathlib.Omega.{arith}
-use lib.ListN.{length, get_or, length-map, get_or-eq_default}
+use lib.ListN.{length, get_or, get_or-eq_default}
 use Rattle.std.specs.Prelude.{Option, Some, None}
 use Rattle.matching.specs.Internal.Rows.{number_held, way_of}
 use Rattle.row_placing.specs.Internal.Entries.{entries_at, entry_held, entries_held}
-
-pub entries_long : (xs places : List ℕ) → length (entries_at xs places) ≡ length places
-entries_long xs places = length-map places (λ i. get_or xs i 0)
 
 pub entry_at :
     (xs places : List ℕ) (p : ℕ) → p < length places → get_or (entries_at xs places) p 0 ≡ get_or xs (get_or places p 0) 0
 entry_at xs [] p l = absurd (omega arith)
 entry_at xs (i ∷ is) zero l = refl
 entry_at xs (i ∷ is) (suc p) l = entry_at xs is p (omega arith)
-
-pub held_long : (xs : List ℕ) (held : List (Option ℕ)) → length (entries_held xs held) ≡ length held
-held_long xs held = length-map held (entry_held xs)
 
 -- A list of at most 64 entries has none at the number that stands for no place.
 entry_number : (xs : List ℕ) (place : Option ℕ) → length xs ≤ 64 → entry_held xs place ≡ get_or xs (number_held place) 0

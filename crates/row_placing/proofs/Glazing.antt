@@ -9,7 +9,7 @@ use mathlib.Core.Bool.{Bool, true, false}
 use mathlib.Core.List.{List, []}
 use native.Mathlib.Omega.{arith}
 use lib.Dec.{eqb}
-use lib.ListN.{length, get_or, get_or-eq_default}
+use lib.ListN.{length, length-map, get_or, get_or-eq_default}
 use borrow.Author.Tests.{eqb-true, eq-eqb, ne_eqb}
 use Rattle.std.specs.Prelude.{Option, if◌then◌else◌}
 use Rattle.ids.specs.Ids.{Distinct}
@@ -20,7 +20,7 @@ use Rattle.glass_set.specs.Internal.Member.{has}
 use Rattle.matching.specs.Internal.Matching.{Greatest}
 use Rattle.matching.specs.Internal.Rows.{task_of, way_of}
 use Rattle.row_placing.specs.Schedule.{Schedule}
-use Rattle.row_placing.specs.Internal.Entries.{entries_held}
+use Rattle.row_placing.specs.Internal.Entries.{entry_held, entries_held}
 use Rattle.row_placing.specs.Placing.{nonzero, Placing}
 use Rattle.row_placing.specs.ShortGroup.{PaneGroup, lacking, ShortGroup}
 use Rattle.row_placing.specs.Glazing.{Glazing}
@@ -31,7 +31,7 @@ use Rattle.basics.specs.Internal.Arrays.{written}
 use Rattle.row_placing.specs.Internal.Promise.{RowsGlazed}
 use Rattle.row_placing.specs.Internal.Steps.{Answered, confined_ids, group_due}
 use Rattle.row_placing.specs.declared.PlaceCounts.{PlaceCounts}
-use Rattle.row_placing.proofs.Entries.{held_long, held_same}
+use Rattle.row_placing.proofs.Entries.{held_same}
 use Rattle.row_placing.proofs.Ids.{nonzero_le}
 use Rattle.basics.proofs.Lent.{wrote}
 use Rattle.row_placing.proofs.Bridge.{each_held, is_placing, none_spare}
@@ -60,7 +60,7 @@ module _
 
     few_placed : placed ≤ length rows
     few_placed =
-        let most = nonzero_le (entries_held glass_ids held) (length rows) (held_long glass_ids held ∙ long) in
+        let most = nonzero_le (entries_held glass_ids held) (length rows) (length-map held (entry_held glass_ids) ∙ long) in
         omega (arith, answered.placed_is)
 
     module _ (s : Schedule) (b : Stated s rows sheets64 glass_ids pane_ids) where

@@ -3,7 +3,7 @@
 use mathlib.Core.Logic.{⊎_elim}
 use native.Mathlib.Omega.{arith}
 use lib.ListN.{length}
-use Rattle.basics.proofs.Tests.{same_or_not}
+use Rattle.std.proofs.lemmas.Bool.{cases_eq}
 use Rattle.row_placing.specs.Schedule.{Schedule}
 use Rattle.row_placing.specs.MissingSheets.{MissingSheetsLaw}
 use Rattle.row_placing.proofs.MoreSheets.{lacking_le}
@@ -16,7 +16,7 @@ missing_sheets s told ids group placed g = record {
       ⊎_elim
       (λ all. omega (arith, all))
       (λ left. omega (arith, g.whole_shortage, lacking_le more enough group (g.if_less left).some_panes))
-      (same_or_not placed (length s.pane_ids));
+      (cases_eq placed (length s.pane_ids));
   enough = λ choice passing. sheets_enough ids g.placing choice passing told;
   as_many = λ choice passing. omega (arith, g.placed_is, as_many ids g.placing choice passing);
 }

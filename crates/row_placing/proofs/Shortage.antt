@@ -11,7 +11,7 @@ use native.Mathlib.Omega.{arith}
 use native.Mathlib.Nat.{le_trans}
 use lib.ListN.{length, get_or}
 use Rattle.std.specs.Prelude.{Option, if◌then◌else◌}
-use Rattle.basics.proofs.Tests.{both_true}
+use Rattle.std.proofs.lemmas.Bool.{and_parts}
 use Rattle.ids.specs.Ids.{among}
 use Rattle.rising_ids.proofs.Listing.{list_length}
 use Rattle.rising_ids.proofs.OneOf.{OneOf, list_among, list_at, list_once}
@@ -47,7 +47,7 @@ module _
       suits_tight : (j : ℕ) → j < length s.glass_ids → suits s group j ≡ true → has tight j ≡ true
       suits_tight j l suited =
           let f = any_found (λ p. among (get_or s.pane_ids p 0) group && s.passes p j) (length s.pane_ids) suited in
-          let both = both_true (among (get_or s.pane_ids f.number 0) group) (s.passes f.number j) f.passed in
+          let both = and_parts (among (get_or s.pane_ids f.number 0) group) (s.passes f.number j) f.passed in
           let m = list_among (λ p. get_or pane_ids p 0) (confined_to rows tight) (length rows) (get_or s.pane_ids f.number 0) both.0 in
           let here : m.number < length s.pane_ids = omega (arith, m.below, b.a_row_each) in
           let id = sym (b.pane_ids_are m.number here) ∙ m.is_id in

@@ -5,18 +5,18 @@ use Prim.Native.Nat.{ℕ, ◌<◌}
 use mathlib.Core.Path.{◌≡◌, sym, ◌∙◌}
 use mathlib.Core.List.{List}
 use native.Mathlib.Omega.{arith}
-use lib.ListN.{length, get_or}
+use lib.ListN.{length, get_or, length-map}
 use Rattle.ids.specs.Ids.{Distinct}
 use Rattle.ids.proofs.Distinct.{distinct_at}
 use Rattle.row_placing.specs.Schedule.{Schedule}
 use Rattle.row_placing.specs.Internal.Entries.{entries_at, some_panes}
 use Rattle.row_placing.specs.Internal.Stated.{Known, Stated}
-use Rattle.row_placing.proofs.Entries.{entries_long, entry_at}
+use Rattle.row_placing.proofs.Entries.{entry_at}
 use Rattle.row_placing.proofs.Numbers.{same_pane}
 
 -- The panes at some places are as many as the places.
 below : (s : Schedule) (places : List ℕ) (p : ℕ) → p < length (entries_at s.pane_ids places) → p < length places
-below s places p l = omega (arith, entries_long s.pane_ids places)
+below s places p l = omega (arith, length-map places (λ i. get_or s.pane_ids i 0))
 
 some_known :
     {s : Schedule} → Known s → (places sheets : List ℕ) → Distinct places →
@@ -46,7 +46,7 @@ pub some_stated :
     Stated (some_panes s places sheets) (entries_at rows places) sheets64' glass_ids (entries_at pane_ids places)
 some_stated {s} {rows} {sheets64} {glass_ids} {pane_ids} b places sheets sheets64' each_once within agree = record {
   known = some_known b.known places sheets each_once within;
-  a_row_each = entries_long rows places ∙ sym (entries_long s.pane_ids places);
+  a_row_each = length-map places (λ i. get_or rows i 0) ∙ sym (length-map places (λ i. get_or s.pane_ids i 0));
   rows_are =
       λ p l g k.
       let here = below s places p l in

@@ -4,7 +4,9 @@ ghost use Rattle.basics.specs.Lent.{lent};
 ghost use Rattle.row_placing.specs.Internal.Entries.{entry_held};
 ghost use Rattle.row_placing.specs.Internal.Steps.{Answered};
 
-// Writes the id of each pane's glass, or 0 where `held` has no number of one, and counts the ids that are not 0.
+// Writes the id of each pane's glass, or 0 where `held` has no number of one, and counts the ids that are not 0. That 0 is the form
+// of document 01 and of C. Tried `answers.iter_mut().zip(held)`: the proof didn't close, since nothing is known of what a loop over
+// an adapter of `iter_mut` leaves.
 pub fn write_answers(held: &[Option<usize>], ids: &[u32], answers: &mut [u32]) -> usize
     requires { length held.now ≤ length answers.old }
     ensures { Answered ids.now held.now

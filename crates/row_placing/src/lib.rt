@@ -44,8 +44,7 @@ pub fn place_rows(
     let tight = match_panes(rows, *sheets, held);
     let placed = write_answers(held, glass_ids, answers);
     let wanted = rows.len();
-    let full = placed == wanted;
-    let group = if full {
+    let group_length = if placed == wanted {
         0
     } else {
         write_group(rows, tight, pane_ids, group)
@@ -53,6 +52,6 @@ pub fn place_rows(
     PlaceCounts {
         wanted,
         placed,
-        group,
+        group: group_length,
     }
 }

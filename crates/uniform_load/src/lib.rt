@@ -19,7 +19,7 @@ use wind_classes::Pressures;
 // What clause 4 reads of a pane, for every glass that it is tried with.
 #[derive(Clone, Copy)]
 pub struct UniformLoad {
-    // supported edges, 2 or 4
+    // supported edges, 2 or 4: a number of the pane's line
     pub edges: u32,
     // B times B, in square mm
     pub square: u64,

@@ -9,7 +9,7 @@ use native.Mathlib.Omega.{arith}
 use borrow.Author.Tests.{eqb-true}
 use lib.Dec.{eqb}
 use lib.ListN.{get_or}
-use Rattle.basics.proofs.Tests.{both_true}
+use Rattle.std.proofs.lemmas.Bool.{and_parts}
 use Rattle.ranges.specs.Internal.Counts.{all_to}
 use Rattle.ranges.proofs.All.{all_at}
 use Rattle.wind_classes.specs.RoofPressures.{RoofRow, roof_row, roof_rows}
@@ -41,8 +41,8 @@ all_rows_in_place = refl
 
 pub row_in_place : (class : ℕ) → 1 ≤ class → class ≤ 10 → RowInPlace class
 row_in_place class low high =
-    let passed = both_true _ _ (all_at is_row_in_place 10 all_rows_in_place (class - 1) (omega arith)) in
-    let up = both_true _ _ passed.1 in
+    let passed = and_parts _ _ (all_at is_row_in_place 10 all_rows_in_place (class - 1) (omega arith)) in
+    let up = and_parts _ _ passed.1 in
     record {
       any_is = eqb-true _ _ passed.0;
       general_is = eqb-true _ _ up.0;

@@ -7,7 +7,8 @@ use native.Mathlib.Omega.{arith}
 use borrow.Author.Tests.{leb-true}
 use lib.Dec.{T, leb, eqb}
 use Rattle.std.specs.Prelude.{if◌then◌else◌}
-use Rattle.basics.proofs.Tests.{both_true, if_high}
+use Rattle.std.proofs.lemmas.Bool.{and_parts}
+use Rattle.basics.proofs.Tests.{if_high}
 use Rattle.ranges.specs.Internal.Counts.{all_to}
 use Rattle.ranges.proofs.All.{all_at}
 use Rattle.wind_classes.specs.ClassPressures.{row_of}
@@ -59,8 +60,8 @@ not_above :
 not_above class other rises =
     let below = rising_below class other rises in
     let row = all_at (λ class. all_to (is_not_above class) 11) 11 all_not_above class below.0 in
-    let a = both_true _ _ (applies (rises_to class other) _ (all_at (is_not_above class) 11 row other below.1) rises) in
-    let b = both_true _ _ a.1 in
+    let a = and_parts _ _ (applies (rises_to class other) _ (all_at (is_not_above class) 11 row other below.1) rises) in
+    let b = and_parts _ _ a.1 in
     (leb-true _ _ a.0, leb-true _ _ b.0, leb-true _ _ b.1)
 
 -- The same choice of two figures.

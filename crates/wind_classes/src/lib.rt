@@ -4,7 +4,8 @@
 ghost use Rattle.std.specs.Prelude.{◌≡◌, ◌≤◌};
 ghost use Rattle.wind_classes.specs.ClassPressures.{class_pressures};
 
-// Ultimate wind pressures, in units of 0.01 kPa.
+// Ultimate wind pressures, in units of 0.01 kPa. A `P` line has two numbers of these names too (job_pane's `Wind`): those are what a file
+// says, before they are judged, and this crate knows of no file.
 #[derive(Clone, Copy)]
 pub struct Pressures {
     pub down: u32,
@@ -26,7 +27,7 @@ static ROOF_PRESSURES: [[u32; 3]; 10] = [
     [422, 639, 998],
 ];
 
-// The pressures of a class in a zone.
+// The pressures of a class in a zone, which are numbers of a line, as in job_pane's `Wind`.
 pub fn class_pressures(class: u32, zone: u32) -> Pressures
     ensures { result ≡ class_pressures class zone }
 {
