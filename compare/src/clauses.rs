@@ -1,5 +1,5 @@
 //! The verdict on a pane and a glass: document 01, "The four clauses", and document 02, 2026-01 for
-//! ribbons, 2026-02 for clause 2 and 2026-03 for the wind of clause 4.
+//! ribbons, 2026-02 for clause 2, and 2026-03 and 2026-06 for the wind and the dead loads of clause 4.
 
 use crate::job::{Glass, Pane};
 use crate::reader::read;
@@ -17,6 +17,12 @@ pub const FAILS_UNIFORM_LOAD: usize = 4;
 /// The nominal thicknesses in mm, in the order of the tables.
 pub const THICKNESSES: [u8; 4] = [6, 8, 10, 12];
 
+/// Laminated annealed glass. The other kinds are heat-strengthened or toughened.
+pub const ANNEALED: u8 = 1;
+
+/// A kind for each of the two dead loads. Kinds 3 and 4 have that of kind 2: document 02, 2026-06.
+pub const KINDS_BY_DEAD_LOAD: [u8; 2] = [ANNEALED, 2];
+
 /// What the clauses need of a pane, worked out once for all glasses.
 #[derive(Clone, Copy, Debug)]
 pub struct Loads {
@@ -32,10 +38,10 @@ pub struct Loads {
     pub column: usize,
     /// The span B in mm: w with two edges, the shorter side with four.
     pub span: u16,
-    /// The pressure P in units of 0.01 kPa, by thickness.
-    pub pressures: [u32; 4],
-    /// B times B times P, by thickness.
-    bbp: [u64; 4],
+    /// The pressure P in units of 0.01 kPa, by dead load and thickness.
+    pressures: [[u32; 4]; 2],
+    /// B times B times P, by dead load and thickness.
+    bbp: [[u64; 4]; 2],
 }
 
 impl Loads {
@@ -45,7 +51,9 @@ impl Loads {
             _ => pane.shorter_side(),
         };
         let wind = pane.wind.pressures();
-        let pressures = THICKNESSES.map(|thick| pressure(pane.angle, wind, thick));
+        let by_thickness = |kind| THICKNESSES.map(|thick| pressure(kind, pane.angle, wind, thick));
+        let pressures = KINDS_BY_DEAD_LOAD.map(by_thickness);
+        let bbp = |p| u64::from(span) * u64::from(span) * u64::from(p);
         Loads {
             laminated_only: pane.top >= 3_000,
             cut_sizes: THICKNESSES.map(|thick| cut_size(pane, thick)),
@@ -54,7 +62,7 @@ impl Loads {
             column: column(pane),
             span,
             pressures,
-            bbp: pressures.map(|p| u64::from(span) * u64::from(span) * u64::from(p)),
+            bbp: pressures.map(|by_thickness| by_thickness.map(bbp)),
         }
     }
 
@@ -76,11 +84,21 @@ impl Loads {
         } else {
             glass.two
         });
-        if self.bbp[thickness] > k * k {
+        if self.bbp[dead_load_index(glass.kind)][thickness] > k * k {
             return FAILS_UNIFORM_LOAD;
         }
         PASSES
     }
+
+    /// The pressure P in units of 0.01 kPa, with glass of this kind and thickness.
+    pub fn pressure(&self, kind: u8, thick: u8) -> u32 {
+        self.pressures[dead_load_index(kind)][thickness_index(thick)]
+    }
+}
+
+/// The place of the dead load of a kind among the two.
+fn dead_load_index(kind: u8) -> usize {
+    usize::from(kind != ANNEALED)
 }
 
 /// The place of a thickness of 6, 8, 10 or 12 mm among the four.
@@ -144,13 +162,27 @@ fn column(pane: &Pane) -> usize {
 }
 
 /// P: the larger of the downward and the upward combination of dead load and wind.
-fn pressure(angle: u8, (down, up): (u16, u16), thick: u8) -> u32 {
-    let thick = u32::from(thick);
-    let at_or_below = usize::from(angle / DEGREES_A_ROW);
-    let at_or_above = usize::from(angle.div_ceil(DEGREES_A_ROW));
-    let maximum = (MAXIMUM_DEAD_LOADS[at_or_below] * thick).div_ceil(6);
-    let minimum = MINIMUM_DEAD_LOADS[at_or_above] * thick / 6;
-    let downward = maximum + u32::from(down);
-    let upward = u32::from(up).saturating_sub(minimum);
+fn pressure(kind: u8, angle: u8, (down, up): (u16, u16), thick: u8) -> u32 {
+    let downward = maximum_dead_load(kind, angle, thick) + u32::from(down);
+    let upward = u32::from(up).saturating_sub(minimum_dead_load(angle, thick));
     downward.max(upward)
+}
+
+/// The maximum dead load in units of 0.01 kPa: that of the last row of Table 6.1 which the angle
+/// reaches, in this thickness, and 31/50 of it for kinds 2, 3 and 4 (document 02, 2026-06). Only the
+/// end is rounded, up.
+pub fn maximum_dead_load(kind: u8, angle: u8, thick: u8) -> u32 {
+    let at_or_below = usize::from(angle / DEGREES_A_ROW);
+    let row_by_thick = MAXIMUM_DEAD_LOADS[at_or_below] * u32::from(thick);
+    match kind {
+        ANNEALED => row_by_thick.div_ceil(6),
+        _ => (row_by_thick * 31).div_ceil(300),
+    }
+}
+
+/// The minimum dead load of every kind in units of 0.01 kPa, rounded down: that of the first row of
+/// Table 6.1 which the angle does not pass, in this thickness.
+pub fn minimum_dead_load(angle: u8, thick: u8) -> u32 {
+    let at_or_above = usize::from(angle.div_ceil(DEGREES_A_ROW));
+    MINIMUM_DEAD_LOADS[at_or_above] * u32::from(thick) / 6
 }

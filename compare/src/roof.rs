@@ -1,6 +1,6 @@
-//! An accepted job with all its verdicts by document 01, "The four clauses", and document 02,
-//! 2026-01 to 2026-03, the greatest number of panes that can be served (2026-05), and whether the ids of
-//! a group rise in file order (2026-04).
+//! An accepted job with all its verdicts by document 01, "The four clauses", and document 02, 2026-01
+//! to 2026-03 and 2026-06, the greatest number of panes that can be served (2026-05), and whether the
+//! ids of a group rise in file order (2026-04).
 
 use crate::clauses::{Loads, PASSES};
 use crate::flow::Flow;

@@ -1,5 +1,5 @@
 //! Panes and glasses on either side of every boundary in document 01, "The four clauses", and
-//! document 02, 2026-01 to 2026-03.
+//! document 02, 2026-01 to 2026-03 and 2026-06.
 
 use super::easy::{easy_pane, strong_glass};
 use super::plan::{sizes, Plan};

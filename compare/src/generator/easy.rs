@@ -43,15 +43,6 @@ pub fn easy_pane(random: &mut Random) -> Pane {
     }
 }
 
-/// A pane for which the strong glass passes. One in three has two edges.
-pub fn any_easy_pane(random: &mut Random) -> Pane {
-    if random.one_in(3) {
-        easy_two_edge_pane(random)
-    } else {
-        easy_pane(random)
-    }
-}
-
 /// A two-edge pane for which the strong glass passes.
 pub fn easy_two_edge_pane(random: &mut Random) -> Pane {
     Pane {

@@ -1,11 +1,12 @@
 //! Job files by seed, of seven kinds, for "The job file" and all that follows in document 01, and for
-//! document 02, 2026-01 to 2026-05.
+//! document 02, 2026-01 to 2026-06.
 
 mod boundaries;
 mod cut_sizes;
 mod damaged_anywhere;
 mod damaged_lines;
 mod damaged_winds;
+mod dead_loads;
 mod draft;
 mod easy;
 mod fields;
@@ -96,9 +97,10 @@ pub fn generate(random: &mut Random) -> (Kind, Vec<u8>) {
 }
 
 fn hard_plan(random: &mut Random) -> Plan {
-    match random.below(9) {
+    match random.below(10) {
         0..=3 => boundaries::plan(random),
         4..=7 => shapes::plan(random),
-        _ => house_roofs::plan(random),
+        8 => house_roofs::plan(random),
+        _ => dead_loads::plan(random),
     }
 }

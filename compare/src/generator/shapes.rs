@@ -61,7 +61,8 @@ impl Shape {
         let mut plan = Plan::default();
         for (at, &stock) in self.stocks.iter().enumerate() {
             let thick = random.pick(&THICK);
-            let sheet = sheet(first_width, at, thick, &winds);
+            let kind = random.pick(kinds(first_width, thick));
+            let sheet = sheet(first_width, at, (kind, thick), &winds);
             plan.glasses.push(Glass { stock, ..sheet });
         }
         for &interval in &self.intervals {
@@ -86,20 +87,33 @@ fn sides(first_width: u16, (first, last): Interval) -> (u16, u16) {
     (width, height)
 }
 
-/// The sheet at this place, of the cut size of the pane that it alone covers. It just bears that pane in
-/// each of these winds.
-fn sheet(first_width: u16, at: usize, thick: u8, winds: &[Wind]) -> Glass {
+/// The sheet at this place, of this kind and thickness and of the cut size of the pane that it alone
+/// covers. It just bears that pane in each of these winds.
+fn sheet(first_width: u16, at: usize, (kind, thick): (u8, u8), winds: &[Wind]) -> Glass {
     let sides = sides(first_width, (at, at));
     let (w, h) = cut_size(&pane(sides, PRESSURES), thick);
     let least = winds
         .iter()
-        .map(|&wind| least_constant(&pane(sides, wind), thick));
+        .map(|&wind| least_constant(&pane(sides, wind), kind, thick));
     Glass {
+        kind,
         thick,
         w,
         h,
         four: least.max().expect("a wind"),
         ..strong_glass()
+    }
+}
+
+/// The kinds of the sheets of a thickness. All bear the point load on the widest panes:
+/// heat-strengthened glass of 8 mm and annealed glass of 10 and 12 mm only where none is a ribbon,
+/// annealed glass of 8 mm nowhere.
+fn kinds(first_width: u16, thick: u8) -> &'static [u8] {
+    match (first_width, thick) {
+        (1_000, 8) => &[2, 3, 4],
+        (1_000, _) => &[1, 2, 3, 4],
+        (_, 8) => &[3, 4],
+        _ => &[2, 3, 4],
     }
 }
 
@@ -110,7 +124,7 @@ fn pane((w, h): (u16, u16), wind: Wind) -> Pane {
         edges: 4,
         angle: 45,
         awning: false,
-        top: 4_000,
+        top: 2_500,
         w,
         h,
         wind,

@@ -16,14 +16,35 @@ pub fn entry(random: &mut Random) -> (Pane, Glass) {
     let row = Row::draw(random);
     let column = random.below(4);
     let b = (row.spans()[column] + random.pick(&[0, 1, 1, 2, 2])).max(2) - 1;
-    let two_edges = column == TWO_EDGE && (b > WIDEST_RIBBON || random.one_in(2));
-    let pane = if two_edges {
-        row.pane(2, (b, random.draw(1..=5_000)), random)
-    } else {
-        let longer = longer_side(b, column, random);
-        row.pane(4, either_way_round((b, longer), random), random)
+    (row.pane_of_span(b, column, random), row.glass())
+}
+
+/// A pane at this angle and with no wind that clauses 1 to 3 let pass with glass of this kind and
+/// thickness, where the sheet is large enough. For some there is none: a row of dashes.
+pub fn within(kind: u8, thick: u8, angle: u8, random: &mut Random) -> Option<Pane> {
+    let live_load = usize::from(angle < 30);
+    let row = Row {
+        kind,
+        live_load,
+        thick,
     };
-    (pane, row.glass())
+    let spans = row.spans();
+    let columns: Vec<usize> = (0..4).filter(|&column| spans[column] > 0).collect();
+    if columns.is_empty() {
+        return None;
+    }
+    let column = random.pick(&columns);
+    // Of a span of 100 and more, the constant shows whether P is 1 off.
+    let b = match random.below(8) {
+        0 => random.draw(1..=99),
+        _ => random.draw(100..=spans[column]),
+    };
+    let pane = row.pane_of_span(b, column, random);
+    let top = match kind {
+        4 => pane.top.min(2_999),
+        _ => pane.top,
+    };
+    Some(Pane { angle, top, ..pane })
 }
 
 /// A longer side with which a four-edge pane of this span reads this column.
@@ -76,6 +97,16 @@ impl Row {
             thick: self.thick,
             ..strong_glass()
         }
+    }
+
+    /// A pane of this span that reads this column, with the row's live load and no wind.
+    fn pane_of_span(&self, b: u16, column: usize, random: &mut Random) -> Pane {
+        let two_edges = column == TWO_EDGE && (b > WIDEST_RIBBON || random.one_in(2));
+        if two_edges {
+            return self.pane(2, (b, random.draw(1..=5_000)), random);
+        }
+        let longer = longer_side(b, column, random);
+        self.pane(4, either_way_round((b, longer), random), random)
     }
 
     /// A pane with the row's live load and no wind.

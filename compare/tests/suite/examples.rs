@@ -1,5 +1,5 @@
 //! The bench examples (a) to (j) of document 01 on the second implementation, with the last size of
-//! (c) by document 02, 2026-01.
+//! (c) by document 02, 2026-01, and the dead loads by 2026-06.
 
 use crate::jobs::{accepted, glass, EXAMPLE_J};
 use compare::clauses::{verdict, Loads, FAILS_KIND, FAILS_POINT_LOAD, FAILS_UNIFORM_LOAD, PASSES};
@@ -85,8 +85,9 @@ fn e_rows_of_32_degrees() {
             wind: Wind::Pressures { down, up },
             ..pane()
         };
-        Loads::of(&pane).pressures[0]
+        Loads::of(&pane).pressure(1, 6)
     };
+    // The figures of the rows are those of annealed glass of 6 mm.
     assert_eq!(pressure(32, 0, 0), 49);
     assert_eq!(pressure(32, 0, 1000), 1000 - 11);
     assert_eq!(pressure(32, 100, 5), 149);
@@ -107,7 +108,7 @@ fn f_rounding_at_10_degrees_and_8_mm() {
             wind: Wind::Pressures { down: 0, up },
             ..pane()
         };
-        Loads::of(&pane).pressures[1]
+        Loads::of(&pane).pressure(1, 8)
     };
     assert_eq!(pressure(0), 75);
     assert_eq!(pressure(1000), 1000 - 17);
@@ -115,14 +116,14 @@ fn f_rounding_at_10_degrees_and_8_mm() {
 
 #[test]
 fn g_uniform_load() {
-    // At 0 degrees, 12 mm has a maximum dead load of 114.
+    // At 0 degrees, toughened glass of 12 mm has a maximum dead load of 71.
     let pane = Pane {
         w: 100,
         h: 100,
-        wind: Wind::Pressures { down: 30, up: 0 },
+        wind: Wind::Pressures { down: 73, up: 0 },
         ..pane()
     };
-    assert_eq!(Loads::of(&pane).pressures[3], 144);
+    assert_eq!(Loads::of(&pane).pressure(3, 12), 144);
     let four = |four| Loads::of(&pane).judge(&Glass { four, ..glass() });
     assert_eq!(four(1200), PASSES);
     assert_eq!(four(1199), FAILS_UNIFORM_LOAD);

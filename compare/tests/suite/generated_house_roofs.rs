@@ -5,7 +5,9 @@ use crate::pairs::{
     down_governs, files_with, for_each_pair, jobs, judge, just_bears, just_fails, not_few,
     up_governs, FEW,
 };
-use crate::table_a2::{classes_and_zones, right_pressures, DOWN_CAN_GOVERN};
+use crate::table_a2::{
+    classes_and_zones, right_pressures, DOWN_CAN_GOVERN, DOWN_CAN_GOVERN_ON_ALL,
+};
 use compare::generator::Kind;
 use compare::job::{Glass, Job, Pane, Wind};
 use compare::roof::Roof;
@@ -84,25 +86,29 @@ const AT_THE_BOUNDARY: [fn(&Pane, &Glass) -> bool; 2] = [just_bears, just_fails]
 
 #[test]
 fn the_boundaries_where_down_governs() {
-    check_boundaries(&DOWN_CAN_GOVERN, down_governs);
+    check_boundaries(&[1], &DOWN_CAN_GOVERN, down_governs);
+    check_boundaries(&[2, 3, 4], &DOWN_CAN_GOVERN_ON_ALL, down_governs);
 }
 
 #[test]
 fn the_boundaries_where_up_governs() {
     let rows: Vec<(u16, u16)> = classes_and_zones().collect();
-    check_boundaries(&rows, up_governs);
+    check_boundaries(&[1], &rows, up_governs);
+    check_boundaries(&[2, 3, 4], &rows, up_governs);
 }
 
-/// Both sides of the boundary come up in each of these classes and zones where this pressure governs.
-fn check_boundaries(rows: &[(u16, u16)], governs: fn(&Pane, u8) -> bool) {
+/// Both sides of the boundary come up with glass of these kinds in each of these classes and zones
+/// where this pressure governs.
+fn check_boundaries(kinds: &[u8], rows: &[(u16, u16)], governs: fn(&Pane, u8, u8) -> bool) {
     for at_the_boundary in AT_THE_BOUNDARY {
         let counts = files_with(rows.len(), |at, pane, glass| {
             let (class, zone) = rows[at];
             pane.wind == Wind::Class { class, zone }
-                && governs(pane, glass.thick)
+                && kinds.contains(&glass.kind)
+                && governs(pane, glass.kind, glass.thick)
                 && at_the_boundary(pane, glass)
         });
-        println!("files by class and zone: {counts:?}");
+        println!("kinds {kinds:?}, files by class and zone: {counts:?}");
         assert!(counts.iter().all(|&count| count >= FEW));
     }
 }

@@ -1,11 +1,11 @@
-//! House roofs by wind class: document 02, 2026-03. The figures were read from the documents and from
-//! Tables 6.1 and A2 of AS 1288 by hand.
+//! House roofs by wind class: document 02, 2026-03, with the dead loads of 2026-06. The figures were
+//! read from the documents and from Tables 6.1 and A2 of AS 1288 by hand.
 
 use crate::jobs::{glass, EXAMPLE_J, HOUSE_JOB};
 use crate::pairs::{down_governs, p};
 use crate::table_a2::{
-    classes_and_zones, pressure, right_pressures, ANY_POSITION, DOWN_CAN_GOVERN, GENERAL,
-    NEAR_EDGES, SPEEDS,
+    classes_and_zones, pressure, right_pressures, ANY_POSITION, DOWN_CAN_GOVERN,
+    DOWN_CAN_GOVERN_ON_ALL, GENERAL, NEAR_EDGES, SPEEDS,
 };
 use compare::clauses::{
     verdict, Loads, FAILS_KIND, FAILS_POINT_LOAD, FAILS_SIZE, FAILS_UNIFORM_LOAD, PASSES,
@@ -73,18 +73,19 @@ fn figures_fit_speeds_and_coefficients() {
     }
 }
 
-/// At every angle and in every thickness, with constants about the least one.
+/// At every angle, in every kind and thickness, with constants about the least one.
 #[test]
 fn the_verdict_of_the_pane_with_the_pressures() {
     for (class_number, zone) in classes_and_zones() {
         for angle in 0..=74 {
             let by_class = pane(angle, class(class_number, zone));
             let by_pressures = pane(angle, right_pressures(class_number, zone));
-            for thick in THICKNESSES {
-                assert_eq!(p(&by_class, thick), p(&by_pressures, thick));
-                let least = (10_000 * p(&by_pressures, thick)).isqrt();
+            for (kind, thick) in kinds_and_thicknesses() {
+                assert_eq!(p(&by_class, kind, thick), p(&by_pressures, kind, thick));
+                let least = (10_000 * p(&by_pressures, kind, thick)).isqrt();
                 for four in [1, least - 1, least, least + 1, 99_999] {
                     let glass = Glass {
+                        kind,
                         thick,
                         four,
                         ..glass()
@@ -97,9 +98,13 @@ fn the_verdict_of_the_pane_with_the_pressures() {
     }
 }
 
-/// Angle, thickness, class and zone, and the least constant of a span of 100, which is 10 times the root
-/// of P, rounded up.
-const LEAST_CONSTANTS: [(u8, u8, Wind, u32); 10] = [
+fn kinds_and_thicknesses() -> impl Iterator<Item = (u8, u8)> {
+    (1..=4).flat_map(|kind| THICKNESSES.map(|thick| (kind, thick)))
+}
+
+/// Angle, thickness, class and zone, and the least constant of a span of 100 with annealed glass,
+/// which is 100 times the root of P, rounded up.
+const LEAST_ANNEALED: [(u8, u8, Wind, u32); 10] = [
     // Down governs: 12 mm at 0 degrees has a maximum dead load of 114. With 44, P is 158.
     (0, 12, Wind::Class { class: 1, zone: 1 }, 1_257),
     // The same in zone 2, where up leaves 125 less 26.
@@ -122,41 +127,103 @@ const LEAST_CONSTANTS: [(u8, u8, Wind, u32); 10] = [
     (74, 6, Wind::Class { class: 10, zone: 2 }, 3_155),
 ];
 
+/// The same with the other kinds. Where the pressure up governs on annealed glass too, nothing is
+/// changed.
+const LEAST_OF_OTHERS: [(u8, u8, Wind, u32); 10] = [
+    // Down governs: 12 mm at 0 degrees has a maximum dead load of 71. With 44, P is 115.
+    (0, 12, Wind::Class { class: 1, zone: 1 }, 1_073),
+    // The same in zone 2, where up leaves 125 less 26.
+    (0, 12, Wind::Class { class: 1, zone: 2 }, 1_073),
+    // 71 and 60, where up leaves 173 less 26: P is 147, and up governs.
+    (0, 12, Wind::Class { class: 2, zone: 2 }, 1_213),
+    // 71 and 207, where up leaves 325 less 26: P is 299, and up governs.
+    (0, 12, Wind::Class { class: 5, zone: 1 }, 1_730),
+    // 71 and 212, where up leaves 321 less 26: P is 295, and up governs.
+    (0, 12, Wind::Class { class: 8, zone: 1 }, 1_718),
+    // 71 and 143, where up leaves 216 less 26: P is 214, and down governs.
+    (0, 12, Wind::Class { class: 7, zone: 1 }, 1_463),
+    // Up governs: 6 mm at 74 degrees has a minimum dead load of 3. Of 69, P is 66.
+    (74, 6, Wind::Class { class: 1, zone: 1 }, 813),
+    // 439 less 26, where 71 and 280 add up to 351: P is 413.
+    (0, 12, Wind::Class { class: 6, zone: 1 }, 2_033),
+    // 216 less 3: P is 213.
+    (74, 6, Wind::Class { class: 7, zone: 1 }, 1_460),
+    // 998 less 3: P is 995.
+    (74, 6, Wind::Class { class: 10, zone: 2 }, 3_155),
+];
+
+/// The verdict on a pane of a span of 100, by its angle and wind, and a glass, by its kind and
+/// thickness and its constants "two" and "four".
+fn judge(
+    edges: u8,
+    (angle, wind): (u8, Wind),
+    (kind, thick): (u8, u8),
+    (two, four): (u32, u32),
+) -> usize {
+    let pane = Pane {
+        edges,
+        ..pane(angle, wind)
+    };
+    let glass = Glass {
+        kind,
+        thick,
+        two,
+        four,
+        ..glass()
+    };
+    Loads::of(&pane).judge(&glass)
+}
+
 #[test]
 fn clause_4_has_the_pressures_of_the_class() {
-    for (angle, thick, wind, least) in LEAST_CONSTANTS {
-        let judge = |edges, two, four| {
-            let pane = Pane {
-                edges,
-                ..pane(angle, wind)
-            };
-            let glass = Glass {
-                kind: 4,
-                thick,
-                two,
-                four,
-                ..glass()
-            };
-            Loads::of(&pane).judge(&glass)
-        };
-        assert_eq!(judge(4, 1, least), PASSES, "{wind:?}");
-        assert_eq!(judge(4, 99_999, least - 1), FAILS_UNIFORM_LOAD, "{wind:?}");
-        assert_eq!(judge(2, least, 1), PASSES, "{wind:?}");
-        assert_eq!(judge(2, least - 1, 99_999), FAILS_UNIFORM_LOAD, "{wind:?}");
+    for (angle, thick, wind, least) in LEAST_ANNEALED {
+        check_four_edges((angle, wind), (1, thick), least);
+    }
+    for (angle, thick, wind, least) in LEAST_OF_OTHERS {
+        for kind in [2, 3, 4] {
+            check_four_edges((angle, wind), (kind, thick), least);
+        }
+        for kind in [3, 4] {
+            check_two_edges((angle, wind), (kind, thick), least);
+        }
     }
 }
 
-/// The pressure down governs where up less down is under the sum of the dead loads, maximum and minimum.
-/// That is at most 140, with 12 mm at 0 degrees, and up less down is over 140 in all other classes and
-/// zones.
+fn check_four_edges(place: (u8, Wind), glass: (u8, u8), least: u32) {
+    let judge = |k| judge(4, place, glass, k);
+    assert_eq!(judge((1, least)), PASSES, "{place:?} and {glass:?}");
+    let weaker = judge((99_999, least - 1));
+    assert_eq!(weaker, FAILS_UNIFORM_LOAD, "{place:?} and {glass:?}");
+}
+
+/// Kinds 1 and 2 do not bear the point load on two edges in some of the places.
+fn check_two_edges(place: (u8, Wind), glass: (u8, u8), least: u32) {
+    let judge = |k| judge(2, place, glass, k);
+    assert_eq!(judge((least, 1)), PASSES, "{place:?} and {glass:?}");
+    let weaker = judge((least - 1, 99_999));
+    assert_eq!(weaker, FAILS_UNIFORM_LOAD, "{place:?} and {glass:?}");
+}
+
+/// The pressure down governs where up less down is under the sum of the dead loads, maximum and
+/// minimum. That is at most 140 for annealed glass, with 12 mm at 0 degrees, and at most 97 for the
+/// other kinds. Up less down is over that in all other classes and zones.
 #[test]
 fn downs_that_can_govern() {
+    assert_eq!(downs_that_govern(1), DOWN_CAN_GOVERN);
+    for kind in [2, 3, 4] {
+        assert_eq!(downs_that_govern(kind), DOWN_CAN_GOVERN_ON_ALL);
+    }
+}
+
+/// The classes and zones in which the pressure down governs at some angle in some thickness.
+fn downs_that_govern(kind: u8) -> Vec<(u16, u16)> {
     let can_govern = |&(class_number, zone): &(u16, u16)| {
         let mut places = (0..=74).flat_map(|angle| THICKNESSES.map(|thick| (angle, thick)));
-        places.any(|(angle, thick)| down_governs(&pane(angle, class(class_number, zone)), thick))
+        places.any(|(angle, thick)| {
+            down_governs(&pane(angle, class(class_number, zone)), kind, thick)
+        })
     };
-    let governing: Vec<(u16, u16)> = classes_and_zones().filter(can_govern).collect();
-    assert_eq!(governing, DOWN_CAN_GOVERN);
+    classes_and_zones().filter(can_govern).collect()
 }
 
 /// The wind is for clause 4 alone.

@@ -1,13 +1,15 @@
-//! The second implementation on the examples of document 01, on ribbons, cut sizes and house roofs, the
-//! checks on wrong answers, wrong orders and shortages shown in part, the max flow, the generator, and the
-//! numbers that the interface names.
+//! The second implementation on the examples of document 01, on ribbons, cut sizes, house roofs and
+//! dead loads, the checks on wrong answers, wrong orders and shortages shown in part, the max flow,
+//! the generator, and the numbers that the interface names.
 
 mod chains;
 mod cut_sizes;
+mod dead_loads;
 mod examples;
 mod flows;
 mod generated;
 mod generated_cut_sizes;
+mod generated_dead_loads;
 mod generated_groups;
 mod generated_house_roofs;
 mod generated_pane_lines;
@@ -18,6 +20,7 @@ mod house_roofs;
 mod interface;
 mod jobs;
 mod misread_cut_sizes;
+mod misread_dead_loads;
 mod misread_group_orders;
 mod misread_pane_lines;
 mod misread_shortages;

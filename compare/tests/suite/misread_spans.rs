@@ -66,7 +66,7 @@ fn differs_in_clause_3(pane: &Pane, glass: &Glass, covers: u16) -> bool {
 fn differs_in_clause_4(pane: &Pane, glass: &Glass, covers: u16) -> bool {
     let loads = Loads::of(pane);
     let b = u64::from(loads.span + covers * edge_cover(glass.thick));
-    let p = u64::from(loads.pressures[thickness_index(glass.thick)]);
+    let p = u64::from(loads.pressure(glass.kind, glass.thick));
     let k = u64::from(match pane.edges {
         2 => glass.two,
         _ => glass.four,

@@ -1,6 +1,6 @@
 //! The generated files, the pairs of a pane and a glass in them, and which cases come up among them.
 
-use compare::clauses::{thickness_index, Loads, FAILS_UNIFORM_LOAD, PASSES};
+use compare::clauses::{Loads, FAILS_UNIFORM_LOAD, PASSES};
 use compare::generator::{generate, Kind};
 use compare::job::{Glass, Job, Pane, Wind};
 use compare::random::Random;
@@ -8,6 +8,9 @@ use compare::reader::read;
 
 /// A case that is generated on purpose comes up at least so many times.
 pub const FEW: usize = 10;
+
+/// The kinds of glass.
+pub const KINDS: [u8; 4] = [1, 2, 3, 4];
 
 /// A case, and whether a pair is one.
 pub type Case = (&'static str, fn(&Pane, &Glass) -> bool);
@@ -86,6 +89,20 @@ fn with_constant(pane: &Pane, glass: &Glass, change: impl Fn(u32) -> u32) -> Gla
     glass
 }
 
+/// The constant of the glass for this pane.
+pub fn constant(pane: &Pane, glass: &Glass) -> u32 {
+    match pane.edges {
+        2 => glass.two,
+        _ => glass.four,
+    }
+}
+
+/// Whether a constant bears the pressure P on a pane.
+pub fn bears(pane: &Pane, k: u32, p: u32) -> bool {
+    let b = u64::from(Loads::of(pane).span);
+    b * b * u64::from(p) <= u64::from(k) * u64::from(k)
+}
+
 /// The glass with the constant "two" for both.
 pub fn two_for_four(glass: &Glass) -> Glass {
     Glass {
@@ -94,21 +111,21 @@ pub fn two_for_four(glass: &Glass) -> Glass {
     }
 }
 
-/// The pressure P on a pane with a glass of this thickness.
-pub fn p(pane: &Pane, thick: u8) -> u32 {
-    Loads::of(pane).pressures[thickness_index(thick)]
+/// The pressure P on a pane with a glass of this kind and thickness.
+pub fn p(pane: &Pane, kind: u8, thick: u8) -> u32 {
+    Loads::of(pane).pressure(kind, thick)
 }
 
 /// Whether P is more than it would be without the pressure down.
-pub fn down_governs(pane: &Pane, thick: u8) -> bool {
+pub fn down_governs(pane: &Pane, kind: u8, thick: u8) -> bool {
     let (_, up) = pane.wind.pressures();
     let wind = Wind::Pressures { down: 0, up };
-    p(pane, thick) > p(&Pane { wind, ..*pane }, thick)
+    p(pane, kind, thick) > p(&Pane { wind, ..*pane }, kind, thick)
 }
 
 /// Whether P is more than it would be without the pressure up.
-pub fn up_governs(pane: &Pane, thick: u8) -> bool {
+pub fn up_governs(pane: &Pane, kind: u8, thick: u8) -> bool {
     let (down, _) = pane.wind.pressures();
     let wind = Wind::Pressures { down, up: 0 };
-    p(pane, thick) > p(&Pane { wind, ..*pane }, thick)
+    p(pane, kind, thick) > p(&Pane { wind, ..*pane }, kind, thick)
 }

@@ -167,11 +167,11 @@ fn the_span_is_the_shorter_side() {
 
 #[test]
 fn clause_4_has_the_constant_four() {
-    // At 0 degrees, 12 mm has a maximum dead load of 114. With 30 of wind, P is 144.
+    // At 0 degrees, toughened glass of 12 mm has a maximum dead load of 71. With 73 of wind, P is 144.
     for longer in [301, 400, 500, 5000] {
         let pane = Pane {
             angle: 0,
-            wind: Wind::Pressures { down: 30, up: 0 },
+            wind: Wind::Pressures { down: 73, up: 0 },
             ..pane(100, longer)
         };
         let judge = |two, four| {

@@ -7,5 +7,6 @@ pub mod JobC
 pub mod Examples
 -- What `canopy` prints of them.
 pub mod Texts
--- The rows of wind classes that document 02 states.
+-- The rows of wind classes and of dead loads that document 02 states.
 pub mod WindRows
+pub mod TemperedRow

@@ -1,5 +1,5 @@
--- Document 01, "Bench examples", (a) to (j), with (c) as document 02, 2026-01, has it. (h) and (j) are of every call of `place` that
--- keeps its promise.
+-- Document 01, "Bench examples", (a) to (j), with (c) as document 02, 2026-01, has it, and (f) of kind 1, by 2026-06. (h) and (j) are of
+-- every call of `place` that keeps its promise.
 use Rattle.std.specs.Prelude.{ℕ, ◌≤◌, ◌≡◌, true, false, List, [], ◌∷◌, length, take}
 use Rattle.causes.specs.Answer.{gives}
 use Rattle.causes.specs.declared.Cause.TheVariants.{FileLength}
@@ -80,11 +80,11 @@ pub record ExampleE : Type 0 where
   pub minimum : minimum_at 32 ≡ 11
 
 -- (f) 56 and 13, times 8, divided by 6.
-pub record ExampleF (thick8 : Glass) : Type 0 where
-  pub maximum : max_dead_load (maximum_at 10) thick8 ≡ 75
-  pub minimum : min_dead_load (minimum_at 10) thick8 ≡ 17
+pub record ExampleF (annealed8 : Glass) : Type 0 where
+  pub maximum : max_dead_load (maximum_at 10) annealed8 ≡ 75
+  pub minimum : min_dead_load (minimum_at 10) annealed8 ≡ 17
 
--- (g) B 100 and P 144, with K 1200 and with K 1199. With 6 mm glass laid flat the maximum dead load is 57, so down is 87.
+-- (g) B 100 and P 144, with K 1200 and with K 1199. With 6 mm glass of kind 1 laid flat the maximum dead load is 57, so down is 87.
 pub record ExampleG (p : Pane) (k1200 k1199 : Glass) : Type 0 where
   pub span : span_of p ≡ 100
   pub pressure : design_pressure p k1200 ≡ 144

@@ -3,5 +3,6 @@ pub mod Examples
 -- The files of those that are files, and what `canopy` prints of them.
 pub mod Files
 pub mod Texts
--- The rows of wind classes that document 02 states.
+-- The rows of wind classes and of dead loads that document 02 states.
 pub mod WindRows
+pub mod TemperedRow

@@ -6,5 +6,6 @@ pub mod Verdicts
 pub mod VerdictLaws
 pub mod SightLaws
 pub mod WindLaws
+pub mod LoadLaws
 -- The answers to questions.
 pub mod Answers

@@ -7,4 +7,5 @@ pub mod VerdictAnswer
 pub mod Laws
 pub mod SightLaws
 pub mod WindLaws
+pub mod LoadLaws
 pub mod Internal

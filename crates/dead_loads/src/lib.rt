@@ -4,16 +4,17 @@
 ghost use Rattle.std.specs.Prelude.{◌≡◌};
 ghost use Rattle.dead_loads.specs.Internal.Steps.{dead_load_at};
 
-// The dead load of 6 mm glass, in units of 0.01 kPa.
+// The dead load of 6 mm glass, in units of 0.01 kPa, its maximum of annealed glass. It is of 16 bits, so that it may be multiplied by any
+// thickness.
 #[derive(Clone, Copy)]
 pub struct DeadLoad {
-    pub maximum: u32,
-    pub minimum: u32,
+    pub maximum: u16,
+    pub minimum: u16,
 }
 
 // Maximum and minimum at 0, 5, .. 75 degrees, in units of 0.01 kPa. A row is an array, so that it takes a line, as in the standard;
 // who reads it names what it holds.
-static DEAD_LOADS: [[u32; 2]; 16] = [
+static DEAD_LOADS: [[u16; 2]; 16] = [
     [57, 13],
     [57, 13],
     [56, 13],

@@ -1,10 +1,12 @@
 """Writes the vectors of judge_job: the job files in data/, the questions in args and their answers in stdout.
 
 Run `python3 generate.py`. Each answer is stated here from document 01, "The four clauses", and document 02, 2026-01 to
-2026-03: a pane and a glass are made so that the clause named is the first against them, or none is. Nothing is written where
-clauses.py, a second reading of the papers, says otherwise, or where reader.py, the second reader of check_job's vectors, reads
-a file otherwise. Ribbons are panes with four edges that are more than three times as long as wide, along w or along h. House
-panes have a wind class and a zone; each is judged beside the pane with their pressures.
+2026-03 and 2026-06: a pane and a glass are made so that the clause named is the first against them, or none is. Nothing is
+written where clauses.py, a second reading of the papers, says otherwise, or where reader.py, the second reader of check_job's
+vectors, reads a file otherwise. Ribbons are panes with four edges that are more than three times as long as wide, along w or
+along h. House panes have a wind class and a zone; each is judged beside the pane with their pressures. Tempered glass is that
+of kinds 2, 3 and 4, for which the maximum dead load is less than for kind 1; the glass of a question is of kind 3 unless
+another is named.
 """
 import itertools
 import math
@@ -49,14 +51,22 @@ SPANS = {
     (4, "two"): (700, 1800, 2000, 2000, 0, 400, 1000, 1950, 0, 0, 300, 700),
 }
 
-# The maximum dead load of 6, 8, 10 and 12 mm, rounded up, from a row's angle to the one before the next row.
-MAXIMUM = {
+# The maximum dead load of 6, 8, 10 and 12 mm of kind 1, rounded up, from a row's angle to the one before the next row.
+ANNEALED = {
     (0, 4): (57, 76, 95, 114), (5, 9): (57, 76, 95, 114), (10, 14): (56, 75, 94, 112), (15, 19): (55, 74, 92, 110),
     (20, 24): (54, 72, 90, 108), (25, 29): (52, 70, 87, 104), (30, 34): (49, 66, 82, 98), (35, 39): (47, 63, 79, 94),
     (40, 44): (44, 59, 74, 88), (45, 49): (40, 54, 67, 80), (50, 54): (37, 50, 62, 74), (55, 59): (33, 44, 55, 66),
     (60, 64): (28, 38, 47, 56), (65, 69): (24, 32, 40, 48), (70, 74): (19, 26, 32, 38),
 }
-# The minimum, rounded down, from the angle behind a row's to the next row's.
+# That of kinds 2, 3 and 4 (document 02, 2026-06): the row times 31 times the thickness, a 300th of it, rounded up.
+TEMPERED = {
+    (0, 4): (36, 48, 59, 71), (5, 9): (36, 48, 59, 71), (10, 14): (35, 47, 58, 70), (15, 19): (35, 46, 57, 69),
+    (20, 24): (34, 45, 56, 67), (25, 29): (33, 43, 54, 65), (30, 34): (31, 41, 51, 61), (35, 39): (30, 39, 49, 59),
+    (40, 44): (28, 37, 46, 55), (45, 49): (25, 34, 42, 50), (50, 54): (23, 31, 39, 46), (55, 59): (21, 28, 35, 41),
+    (60, 64): (18, 24, 29, 35), (65, 69): (15, 20, 25, 30), (70, 74): (12, 16, 20, 24),
+}
+MAXIMUM = {1: ANNEALED, 2: TEMPERED, 3: TEMPERED, 4: TEMPERED}
+# The minimum of every kind, rounded down, from the angle behind a row's to the next row's.
 MINIMUM = {
     (0, 0): (13, 17, 21, 26), (1, 5): (13, 17, 21, 26), (6, 10): (13, 17, 21, 26), (11, 15): (13, 17, 21, 26),
     (16, 20): (12, 16, 20, 24), (21, 25): (12, 16, 20, 24), (26, 30): (11, 14, 18, 22), (31, 35): (11, 14, 18, 22),
@@ -218,15 +228,23 @@ def least_constant(span, pressure):
     return math.isqrt(span * span * pressure - 1) + 1
 
 
+def span_of(pane):
+    return pane.w if pane.edges == 2 else min(pane.w, pane.h)
+
+
 def pin(group, pressure, pane, **numbers):
-    """P is this and nothing else: the least constant that bears it does not bear one more, and one below it bears one less.
-    The constant for other edges would turn each answer."""
-    span = pane.w if pane.edges == 2 else min(pane.w, pane.h)
+    """P of this pane and a glass with these numbers is this and nothing else: the least constant that bears it does not bear
+    one more, and one below it bears one less. The constant for other edges would turn each answer."""
+    span = span_of(pane)
     least = least_constant(span, pressure)
     if not (least ** 2 < span ** 2 * (pressure + 1) and (least - 1) ** 2 >= span ** 2 * (pressure - 1)):
         raise SystemExit(f"{group}: a span of {span} does not tell P {pressure} from its neighbours")
     ask(group, 0, pane, by_edges(pane.edges, least, 1, **numbers))
     ask(group, 4, pane, by_edges(pane.edges, least - 1, MOST, **numbers))
+
+
+def dead_load(table, angle, thick):
+    return next(loads[THICK.index(thick)] for (first, last), loads in table.items() if first <= angle <= last)
 
 
 # the slope and the place that give each live load
@@ -294,24 +312,152 @@ FOUR_EDGES = [(200, 200), (200, 390), (390, 200), (200, 600), (600, 200)]
 TWO_EDGES = [(240, 700), (240, 70), (240, 240)]
 # for each table of dead loads the kinds of 6, 8, 10 and 12 mm, with four edges and with two
 KINDS_USED = {"maximum": {4: (2, 1, 3, 4), 2: (3, 4, 3, 4)}, "minimum": {4: (4, 3, 1, 2), 2: (4, 3, 4, 3)}}
+# the P of 6, 8, 10 and 12 mm, which the wind makes the same at all angles
+PRESSURES = dict(zip(THICK, (150, 173, 211, 250)))
+
+
+def given_by(table, kind, angle, thick):
+    """The wind with which this dead load gives that P: with the maximum by the wind down, with the minimum by the wind up."""
+    if table == "maximum":
+        return dict(down=PRESSURES[thick] - dead_load(MAXIMUM[kind], angle, thick), up=angle)
+    return dict(down=angle % 30, up=PRESSURES[thick] + dead_load(MINIMUM, angle, thick))
 
 
 def dead_loads():
     """The two dead loads of every angle and thickness. The wind makes P the same for all of a thickness."""
-    for table, is_up in (MAXIMUM, False), (MINIMUM, True):
-        for (first, last), loads in table.items():
-            for angle in range(first, last + 1):
-                for row, (thick, load, pressure) in enumerate(zip(THICK, loads, (150, 173, 211, 250))):
-                    wind = dict(down=angle % 30, up=pressure + load) if is_up else dict(down=pressure - load, up=angle)
-                    # under 1.1 kN, 6 mm spans nothing with two edges, and 8 mm of kind 1 nothing but with equal sides
-                    edges = 2 if angle % 2 and not (angle < 30 and thick == 6) else 4
-                    name = "minimum" if is_up else "maximum"
-                    kind = KINDS_USED[name][edges][row]
-                    w, h = TWO_EDGES[angle % 3] if edges == 2 else FOUR_EDGES[angle % 5]
-                    if kind == 1 and angle < 30 and thick == 8:
-                        w, h = 200, 200
-                    it = pane(edges, angle, w=w, h=h, **wind)
-                    pin(f"{name}-{thick}-edges-{edges}", pressure, it, kind=kind, thick=thick)
+    for table, angle, (row, thick) in itertools.product(("maximum", "minimum"), range(75), enumerate(THICK)):
+        # under 1.1 kN, 6 mm spans nothing with two edges, and 8 mm of kind 1 nothing but with equal sides
+        edges = 2 if angle % 2 and not (angle < 30 and thick == 6) else 4
+        kind = KINDS_USED[table][edges][row]
+        w, h = TWO_EDGES[angle % 3] if edges == 2 else FOUR_EDGES[angle % 5]
+        if kind == 1 and angle < 30 and thick == 8:
+            w, h = 200, 200
+        it = pane(edges, angle, w=w, h=h, **given_by(table, kind, angle, thick))
+        pin(f"{table}-{thick}-edges-{edges}", PRESSURES[thick], it, kind=kind, thick=thick)
+
+
+# by live load and edges, the kinds and thicknesses that clause 3 lets span nothing
+NO_SPAN = {
+    ("1.1", 4): {(1, 6)}, ("1.1", 2): {(1, 6), (1, 8), (1, 10), (1, 12), (2, 6), (2, 8), (3, 6), (4, 6)},
+    ("0.5", 4): set(), ("0.5", 2): {(1, 6), (1, 8), (2, 6)},
+}
+# the columns that FOUR_EDGES and TWO_EDGES read; no span of theirs that is not a dash is under 250
+READ = {4: ("AR=1", "AR=2", "AR=2", "AR=3", "AR=3"), 2: ("two", "two", "two")}
+
+
+def sides(kind, thick, angle, edges, turn=0):
+    """Sides of FOUR_EDGES or TWO_EDGES that this glass spans at this angle, others at other turns; None if there are none."""
+    load = "1.1" if angle < 30 else "0.5"
+    row = 4 * LIVE_LOADS.index(load) + THICK.index(thick)
+    spanned = [it for it, column in zip(TWO_EDGES if edges == 2 else FOUR_EDGES, READ[edges]) if SPANS[kind, column][row]]
+    if (not spanned) != ((kind, thick) in NO_SPAN[load, edges]):
+        raise SystemExit(f"kind {kind}, {thick} mm, {load} kN, {edges} edges: spans {spanned}")
+    return spanned[turn % len(spanned)] if spanned else None
+
+
+def panes_for(kind, thick, angle, edges, turn=0, **wind):
+    """A pane of these edges that this glass spans, or one of four edges if there is none; nothing if there is none either."""
+    for count in edges, 4:
+        if found := sides(kind, thick, angle, count, turn):
+            w, h = found
+            return [pane(count, angle, w=w, h=h, **wind)]
+    return []
+
+
+def dead_loads_by_kind():
+    """The two dead loads of every kind: at the first angle of each row with four edges, and at the last with two, or with four
+    where two span nothing."""
+    for table, rows in ("maximum", TEMPERED), ("minimum", MINIMUM):
+        for (first, last), kind, thick in itertools.product(rows, KINDS, THICK):
+            for angle, edges in (first, 4), (last, 2):
+                for it in panes_for(kind, thick, angle, edges, angle + thick // 2, **given_by(table, kind, angle, thick)):
+                    pin(f"{table}-kind-{kind}", PRESSURES[thick], it, kind=kind, thick=thick)
+
+
+def eased():
+    """Panes that tempered glass serves, and would not by the maximum of kind 1: one below the least constant for that P fails
+    with kind 1, and passes with the others. In each row at an angle between, with two edges every other time."""
+    for place, (first, _) in enumerate(ANNEALED):
+        for turn, thick in enumerate(THICK, place):
+            wanted, pressure = (thick, first + 2, 2 + turn % 2 * 2, turn), PRESSURES[thick]
+            wind = given_by("maximum", 1, first + 2, thick)
+            annealed = panes_for(1, *wanted, **wind)
+            for it in annealed:
+                pin(f"eased-{thick}", pressure, it, kind=1, thick=thick)
+            # where kind 1 spans nothing, with a pane that kind 2 spans
+            for it in annealed or panes_for(2, *wanted, **wind):
+                below = least_constant(span_of(it), pressure) - 1
+                for kind in 2, 3, 4:
+                    ask(f"eased-{thick}", 0, it, by_edges(it.edges, below, 1, kind=kind, thick=thick))
+
+
+# angle, thickness, the maximum of kind 1 and of tempered glass, and the minimum
+PAPER_LOADS = [
+    # document 02: 71 and not 114
+    (0, 12, 114, 71, 26),
+    # examples (f) and (e), of kind 1
+    (10, 8, 75, 47, 17), (32, 6, 49, 31, 11),
+]
+
+
+def paper_loads():
+    """The dead loads that the papers name, of every kind: the maximum with no wind at all, the minimum with a wind up."""
+    for (angle, thick, annealed, tempered, minimum), kind, edges in itertools.product(PAPER_LOADS, KINDS, (2, 4)):
+        for it in panes_for(kind, thick, angle, edges):
+            pin("paper-loads", annealed if kind == 1 else tempered, it, kind=kind, thick=thick)
+            pin("paper-loads", 200, it._replace(up=200 + minimum), kind=kind, thick=thick)
+
+
+# Angle, thickness and the maximum of tempered glass, which is rounded up once. It is one more if the load of kind 1 is rounded
+# up and then 31/50 of that,
+FROM_KIND_1 = [(10, 10, 58), (15, 10, 57), (25, 8, 43), (35, 8, 39), (60, 10, 29), (70, 8, 16)]
+# or if 31/50 of the row is rounded up and then a sixth of that times the thickness.
+FROM_THE_ROW = [(0, 10, 59), (5, 12, 71), (15, 8, 46), (20, 12, 67), (30, 8, 41), (40, 10, 46), (55, 12, 41)]
+# The unrounded loads next above a whole number, by a 15th and twice by a 10th, and next below, by a 75th and by a 25th
+NEXT_TO_WHOLE = [(45, 8, 34), (15, 6, 35), (55, 10, 35), (25, 8, 43), (20, 12, 67)]
+
+
+def rounded():
+    """The loads that another way to round would change, with no wind: P is the maximum. No row that is read gives a whole
+    number before it is rounded, so rounding down would change every load."""
+    for (row, *_), thick in itertools.product(ANNEALED.values(), THICK):
+        if row * 31 * thick % 300 == 0:
+            raise SystemExit(f"rounded: the row {row} gives a whole number in {thick} mm")
+    for angle, thick, load in FROM_KIND_1:
+        if math.ceil(dead_load(ANNEALED, angle, thick) * 31 / 50) != load + 1:
+            raise SystemExit(f"rounded: at {angle} degrees, {thick} mm has {load} by the rounded load of kind 1 too")
+    for angle, thick, load in FROM_THE_ROW:
+        if math.ceil(math.ceil(dead_load(ANNEALED, angle, 6) * 31 / 50) * thick / 6) != load + 1:
+            raise SystemExit(f"rounded: at {angle} degrees, {thick} mm has {load} by the rounded row too")
+    for table in FROM_KIND_1, FROM_THE_ROW, NEXT_TO_WHOLE:
+        for (angle, thick, load), kind in itertools.product(table, (2, 3, 4)):
+            for it in panes_for(kind, thick, angle, 4 if kind == 3 else 2, kind):
+                pin("rounded", load, it, kind=kind, thick=thick)
+
+
+# angle, thickness, the maximum of kind 1 and of tempered glass, and the minimum
+GOVERNED = [
+    (0, 12, 114, 71, 26), (10, 8, 75, 47, 17), (30, 12, 98, 61, 22), (45, 6, 40, 25, 9), (74, 10, 32, 20, 5),
+]
+
+
+def governed():
+    """Which wind gives P, beside a wind down of 90. The wind up gives it the sooner the less the maximum is."""
+    for place, (angle, thick, annealed, tempered, minimum) in enumerate(GOVERNED):
+        for up, first, others in (
+            # down in every kind; the last is where both are equal with tempered glass
+            (0, 90 + annealed, 90 + tempered), (90 + tempered + minimum - 1, 90 + annealed, 90 + tempered),
+            (90 + tempered + minimum, 90 + annealed, 90 + tempered),
+            # down in kind 1, and up in the others, since their maximum is less; the last is where both are equal with kind 1
+            (90 + tempered + minimum + 1, 90 + annealed, 90 + tempered + 1),
+            (90 + annealed + minimum - 1, 90 + annealed, 90 + annealed - 1),
+            (90 + annealed + minimum, 90 + annealed, 90 + annealed),
+            # up in every kind, which is the same for all
+            (90 + annealed + minimum + 1, 90 + annealed + 1, 90 + annealed + 1), (700, 700 - minimum, 700 - minimum),
+        ):
+            for kind in KINDS:
+                for it in panes_for(kind, thick, angle, 2 + (place + kind) % 2 * 2, place, down=90, up=up):
+                    pin("governed", first if kind == 1 else others, it, kind=kind, thick=thick)
 
 
 def kinds():
@@ -366,8 +512,8 @@ BELOW = [
 
 
 def pressed(edges, span, pressure, is_up):
-    """A pane under this P, by the wind down or up, and the thickness for which it has it."""
-    angle, thick, maximum, minimum = (60, 12, 56, 14) if pressure >= 56 else (74, 6, 19, 3)
+    """A pane under this P, by the wind down or up, and the thickness of tempered glass for which it has it."""
+    angle, thick, maximum, minimum = (60, 12, 35, 14) if pressure >= 56 else (74, 6, 12, 3)
     wind = dict(up=pressure + minimum) if is_up else dict(down=pressure - maximum)
     return pane(edges, angle, w=span, h=span, **wind), thick
 
@@ -417,19 +563,21 @@ def orders():
 
 
 def winds():
-    """P at 45 degrees, where 6 mm has a maximum of 40 and a minimum of 9, and 12 mm one of 80 and one of 18."""
-    for thick, maximum, minimum in (6, 40, 9), (12, 80, 18):
+    """P at 45 degrees, where 6 mm has a maximum of 40 with kind 1 and of 25 with kind 3, and a minimum of 9; 12 mm has 80, 50
+    and 18. With two edges, 6 mm of kind 1 spans nothing."""
+    for kind, thick, maximum, minimum in (1, 6, 40, 9), (1, 12, 80, 18), (3, 6, 25, 9), (3, 12, 50, 18):
         for down, up, pressure in (
             (0, 0, maximum), (1, 0, maximum + 1), (0, 1, maximum), (0, minimum - 1, maximum), (0, minimum, maximum),
             (0, minimum + 1, maximum), (0, maximum, maximum), (0, maximum + minimum - 1, maximum),
             (0, maximum + minimum, maximum), (0, maximum + minimum + 1, maximum + 1), (10, minimum, maximum + 10),
             (10, maximum + minimum + 9, maximum + 10), (10, maximum + minimum + 10, maximum + 10),
-            (10, maximum + minimum + 11, maximum + 11), (0, 200, 200 - minimum), (160, 200, maximum + 160),
+            (10, maximum + minimum + 11, maximum + 11), (0, 200, 200 - minimum), (170, 200, maximum + 170),
             (200, 0, maximum + 200), (1000, 0, maximum + 1000), (0, 1000, 1000 - minimum), (1000, 1000, maximum + 1000),
             (999, 1000, maximum + 999), (900, 1000, 1000 - minimum), (121, 130, maximum + 121),
         ):
-            for edges in 2, 4:
-                pin("wind", pressure, pane(edges, awning=thick // 12, down=down, up=up), thick=thick)
+            for edges in (4,) if (kind, thick) == (1, 6) else (2, 4):
+                awning = 1 if (kind, thick) == (3, 12) else 0
+                pin("wind", pressure, pane(edges, awning=awning, down=down, up=up), kind=kind, thick=thick)
 
 
 def live_loads():
@@ -457,21 +605,30 @@ def limits():
             ask("limits", 1 if kind == 4 else 3, pane(4, 74, 1, MOST, 5000, 5000, 1000, 1000), sheet)
             ask("limits", 1 if kind == 4 else 3, pane(2, 74, 1, MOST, 5000, 5000, 1000, 1000), sheet)
             ask("limits", 3, pane(4, 74, 0, 0, 5000, 5000, 1000, 1000), sheet)
-    # 12 mm weighs 114 at 0 degrees: P is 1114 under the highest wind, and K at least 66754 for a span of 2000
+    # 12 mm of kind 3 has 71 at 0 degrees, where kind 1 has 114: P is 1071 under the highest wind, and K at least 65453 for a
+    # span of 2000, where P 1114 would need 66754. Here B*B*P fits 32 bits
     heavy = pane(4, 0, 0, 2999, 2000, 2000, 1000, 1000)
-    for constant, verdict in (MOST, 0), (66754, 0), (66753, 4), (65536, 4), (65535, 4), (12690, 4), (12689, 4), (1, 4):
+    for constant, verdict in (
+        (MOST, 0), (66754, 0), (66753, 0), (65536, 0), (65535, 0), (65453, 0), (65452, 4), (1, 4),
+    ):
         ask("limits", verdict, heavy, glass(thick=12, two=MOST if verdict else 1, four=constant))
         ask("limits", verdict, heavy._replace(h=5000), glass(thick=12, two=MOST if verdict else 1, four=constant))
-    # 1900 with two edges: K at least 63416
+    # 1900 with two edges: K at least 62180, where P 1114 would need 63416
     heavy = heavy._replace(edges=2, w=1900, h=5000)
-    for constant, verdict in (MOST, 0), (63416, 0), (63415, 4), (1, 4):
+    for constant, verdict in (MOST, 0), (63416, 0), (63415, 0), (62180, 0), (62179, 4), (1, 4):
         ask("limits", verdict, heavy, glass(thick=12, two=constant, four=MOST if verdict else 1))
+    # 12 mm of kind 1 spans 2000 at 30 degrees, where it has 98: P is 1098, and K at least 66273. B*B*P is 97032704 beyond 32
+    # bits, for which a constant of 9851 would do
+    heavy = pane(4, 30, 0, 9000, 2000, 2000, 1000, 1000)
+    for constant, verdict in (MOST, 0), (66273, 0), (66272, 4), (65536, 4), (65535, 4), (9851, 4), (9850, 4), (1, 4):
+        ask("limits", verdict, heavy, glass(1, 12, two=MOST if verdict else 1, four=constant))
+        ask("limits", verdict, heavy._replace(h=4000), glass(1, 12, two=MOST if verdict else 1, four=constant))
     # K*K is 0 but for a multiple of 2 to the 32, or little more
     for constant in 65536, 65537, 80265, 92682, 92683, 98304, MOST:
         ask("limits", 0, pane(w=2000, h=2000, angle=60, down=44), glass(thick=12, two=1, four=constant))
-    # the smallest pane on the smallest sheet for it: P is 57
+    # the smallest pane on the smallest sheet for it: P is 36, where 57 would need a constant of 8
     small = pane(4, 0, 0, 0, 1, 1, 0, 0)
-    for constant, verdict in (1, 4), (7, 4), (8, 0):
+    for constant, verdict in (1, 4), (5, 4), (6, 0), (7, 0), (8, 0):
         ask("limits", verdict, small, glass(3, 6, 13, 13, MOST if verdict else 1, constant, 0))
     # high wind alone is no cause: assumption (f) of 6.5.4 sets no further limit
     for down, up in (120, 0), (121, 0), (1000, 0), (0, 121), (0, 1000), (1000, 1000):
@@ -587,29 +744,46 @@ def ribbon_roots():
             root("ribbon-roots", least, it._replace(w=5000), thick)
 
 
+# Kind and thickness, the widest ribbon for them, and the winds with their P at 45 degrees. The third is always by the wind up,
+# and the second in 6 mm of kind 3, where it would be 100 by the maximum of kind 1. The others are by the wind down.
+RIBBON_WINDS = [
+    (3, 6, 650, [(0, 0, 25), (60, 95, 86), (0, 300, 291), (1000, 1000, 1025)]),
+    (3, 12, WIDEST, [(0, 0, 50), (60, 95, 110), (0, 300, 282), (1000, 1000, 1050)]),
+    (1, 12, 700, [(0, 0, 80), (60, 95, 140), (0, 300, 282), (1000, 1000, 1080)]),
+    (2, 10, 1600, [(0, 0, 42), (60, 95, 102), (0, 300, 285), (1000, 1000, 1042)]),
+    (4, 8, WIDEST, [(0, 0, 34), (60, 95, 94), (0, 300, 288), (1000, 1000, 1034)]),
+]
+
+
 def ribbon_winds():
-    """P of ribbons at 45 degrees, where 6 mm has a maximum of 40 and a minimum of 9, and 12 mm one of 80 and one of 18."""
-    for thick, maximum, minimum, widest in (6, 40, 9, 650), (12, 80, 18, WIDEST):
-        for down, up, pressure in (
-            (0, 0, maximum), (60, 95, maximum + 60), (0, 300, 300 - minimum), (1000, 1000, maximum + 1000),
-        ):
+    """P of ribbons."""
+    for kind, thick, widest, winds in RIBBON_WINDS:
+        for down, up, pressure in winds:
             for w, h in (200, 800), (800, 200), (widest, 5000), (5000, widest):
-                pin("ribbon-wind", pressure, pane(w=w, h=h, down=down, up=up), thick=thick)
+                pin("ribbon-wind", pressure, pane(w=w, h=h, down=down, up=up), kind=kind, thick=thick)
 
 
 def ribbon_constants():
-    """Clause 4 by constants as a glass has them. Over a span of 1666, "four" bears P 205 and no more, and "two" 163."""
+    """Clause 4 by constants as a glass has them. Over a span of 1666, "four" bears P 205 and no more, and "two" 163. At 45
+    degrees, 12 mm of kind 3 has a maximum of 50: each may bear 30 more of the wind down than by that of kind 1, 80."""
     sheet = glass(thick=12, two=21304, four=23857)
-    for edges, down, verdict in (4, 83, 0), (4, 84, 0), (4, 125, 0), (4, 126, 4), (2, 83, 0), (2, 84, 4), (2, 125, 4):
+    for edges, down, verdict in (
+        (4, 113, 0), (4, 114, 0), (4, 126, 0), (4, 155, 0), (4, 156, 4), (2, 113, 0), (2, 114, 4), (2, 155, 4), (2, 84, 0),
+    ):
         ask("ribbon-constants", verdict, pane(edges, w=1666, h=5000, down=down), sheet)
     # with h shorter
-    for down, verdict in (84, 0), (125, 0), (126, 4):
+    for down, verdict in (114, 0), (126, 0), (155, 0), (156, 4):
         ask("ribbon-constants", verdict, pane(w=5000, h=1666, down=down), sheet)
     # a glass with the constants exchanged
     sheet = glass(thick=12, two=23857, four=21304)
-    for down, verdict in (83, 0), (84, 4), (125, 4):
+    for down, verdict in (84, 0), (113, 0), (114, 4), (155, 4):
         ask("ribbon-constants", verdict, pane(w=1666, h=5000, down=down), sheet)
         ask("ribbon-constants", verdict, pane(w=5000, h=1666, down=down), sheet)
+    # over a span of 700 a constant of 7952 bears P 129 and no more, of which kind 1 takes up 80, and kind 3 takes up 50
+    sheet = glass(kind=1, thick=12, two=MOST, four=7952)
+    for down, verdict in (49, 0), (50, 4), (79, 4), (80, 4):
+        ask("ribbon-constants", verdict, pane(w=700, h=5000, down=down), sheet)
+        ask("ribbon-constants", 4 if down == 80 else 0, pane(w=700, h=5000, down=down), sheet._replace(kind=3))
 
 
 def ribbon_orders():
@@ -641,14 +815,14 @@ def ribbon_limits():
                 verdict = 0 if (kind, thick) in AWNINGS else 3
                 ask("ribbon-limits", 1 if kind == 4 else verdict, pane(4, 74, 1, MOST, w, h, 1000, 1000), sheet)
                 ask("ribbon-limits", verdict, pane(4, 74, 1, 0, w, h, 1000, 1000), sheet)
-    # 6 mm weighs 40 at 45 degrees: a span of 1 needs a constant of 7
+    # 6 mm has a maximum of 25 at 45 degrees: a span of 1 needs a constant of 5, where that of kind 1, 40, would need 7
     for w, h in (1, 4), (4, 1), (1, 5000), (5000, 1):
-        for constant, verdict in (1, 4), (6, 4), (7, 0), (MOST, 0):
+        for constant, verdict in (1, 4), (4, 4), (5, 0), (6, 0), (MOST, 0):
             sheet = glass(3, 6, w + 12, h + 12, MOST if verdict else 1, constant, 0)
             ask("ribbon-limits", verdict, pane(4, 45, 0, 0, w, h, 0, 0), sheet)
-    # P is 1114 under the highest wind, as in limits: a span of 1666 needs a constant of 55606
+    # P is 1071 under the highest wind, as in limits: a span of 1666 needs a constant of 54522, where P 1114 would need 55606
     for w, h in (1666, 4999), (4999, 1666), (1666, 5000), (5000, 1666):
-        for constant, verdict in (MOST, 0), (55606, 0), (55605, 4), (1, 4):
+        for constant, verdict in (MOST, 0), (55605, 0), (54522, 0), (54521, 4), (1, 4):
             sheet = glass(thick=12, two=MOST if verdict else 1, four=constant)
             ask("ribbon-limits", verdict, pane(4, 0, 0, 2999, w, h, 1000, 1000), sheet)
 
@@ -747,8 +921,8 @@ def cut_size_fields():
             covered_or_not(group, 0, other, covering(other, kind, 12))
         for stock in 0, 999:
             covered_or_not(group, 0, other, covering(other, thick=12, stock=stock))
-        # a span of 200 under P 1080 needs a constant of 6573
-        covered_or_not(group, 0, other, covering(other, thick=12, two=6573, four=6573))
+        # a span of 200 under P 1050 needs a constant of 6481
+        covered_or_not(group, 0, other, covering(other, thick=12, two=6481, four=6481))
     # every kind in the other thicknesses
     for kind, thick in itertools.product(KINDS, (6, 8, 10)):
         covered_or_not(group, 0, it, covering(it, kind, thick))
@@ -793,8 +967,8 @@ def sight_spans():
 
 def sight_uniform_loads():
     """Clause 4 reads the span off the sight size: 600 under P 100 needs a constant of 6000. Clause 3 allows at least 650."""
-    # at 45 degrees the maximum is 40, 54, 67 and 80
-    for thick, down in (6, 60), (8, 46), (10, 33), (12, 20):
+    # at 45 degrees the maximum of tempered glass is 25, 34, 42 and 50
+    for thick, down in (6, 75), (8, 66), (10, 58), (12, 50):
         for edges, w, h in (2, 600, 900), (2, 600, 500), (4, 600, 600), (4, 900, 600), (4, 600, 1800), (4, 2500, 600):
             sheet = dict(w=w + TWO_COVERS[thick], h=h + TWO_COVERS[thick])
             root("sight-uniform-load", 6000, pane(edges, w=w, h=h, down=down), thick, **sheet)
@@ -827,30 +1001,34 @@ def sight_proportions():
             ask("sight-proportion", verdict, it._replace(w=longer, h=shorter), sheet)
 
 
-# the classes and zones in which the wind down gives P at some angle and thickness; the wind up does so in all
-DOWN_GIVES_P = [(1, 1), (1, 2), (2, 1), (2, 2), (3, 1), (4, 1), (5, 1), (7, 1), (8, 1)]
-
-
-def dead_load(table, angle, thick):
-    return next(loads[THICK.index(thick)] for (first, last), loads in table.items() if first <= angle <= last)
+# The classes and zones in which the wind down gives P at some angle and thickness; the wind up does so in all. With tempered
+# glass, whose maximum is less, three of those of kind 1 are none: N2 in zone 2, and N5 and C2 in zone 1.
+DOWN_GIVES_P = {
+    "annealed": [(1, 1), (1, 2), (2, 1), (2, 2), (3, 1), (4, 1), (5, 1), (7, 1), (8, 1)],
+    "tempered": [(1, 1), (1, 2), (2, 1), (3, 1), (4, 1), (7, 1)],
+}
 
 
 def house_winds():
     """P of each class and zone in each thickness, by the wind down and by the wind up where these give it: with four edges at
-    the least such angle, and with two at the greatest."""
-    given = {"down": set(), "up": set()}
+    the least such angle, and with two at the greatest. By the wind down also with kind 1, where it spans anything."""
+    given = {"down": set(), "up": set(), "down-annealed": set()}
     for (wind, zone), thick in itertools.product(CLASSES, THICK):
         down, up = pressures(wind, zone)
-        downward = [down + dead_load(MAXIMUM, angle, thick) for angle in range(75)]
         upward = [up - dead_load(MINIMUM, angle, thick) for angle in range(75)]
-        for name, ones, others in ("down", downward, upward), ("up", upward, downward):
+        for name, kind in ("down", 3 + zone % 2), ("up", 3 + zone % 2), ("down-annealed", 1):
+            downward = [down + dead_load(MAXIMUM[kind], angle, thick) for angle in range(75)]
+            ones, others = (upward, downward) if name == "up" else (downward, upward)
             angles = [angle for angle in range(75) if ones[angle] > others[angle]]
             for edges, angle in ((4, angles[0]), (2, angles[-1])) if angles else []:
                 given[name].add((wind, zone))
-                w, h = TWO_EDGES[wind % 3] if edges == 2 else FOUR_EDGES[(wind + thick // 2) % 5]
-                it = house(edges, angle, w=w, h=h, wind=wind, zone=zone)
-                pin(f"house-{name}-edges-{edges}", ones[angle], it, kind=3 + zone % 2, thick=thick)
-    if given != {"down": set(DOWN_GIVES_P), "up": set(CLASSES)}:
+                shape = TWO_EDGES[wind % 3] if edges == 2 else FOUR_EDGES[(wind + thick // 2) % 5]
+                if kind == 1:
+                    shape = sides(kind, thick, angle, edges, wind)
+                if shape:
+                    it = house(edges, angle, w=shape[0], h=shape[1], wind=wind, zone=zone)
+                    pin(f"house-{name}-edges-{edges}", ones[angle], it, kind=kind, thick=thick)
+    if given != {"down": set(DOWN_GIVES_P["tempered"]), "up": set(CLASSES), "down-annealed": set(DOWN_GIVES_P["annealed"])}:
         raise SystemExit(f"houses: P is given by {given}")
 
 
@@ -875,23 +1053,27 @@ def house_orders():
 
 
 def house_numbers():
-    """The numbers of a class and a zone are small pressures on the line of another pane: at 45 degrees, 10 mm has a maximum of
-    67 and a minimum of 15. What bears them does not bear the class."""
+    """The numbers of a class and a zone are small pressures on the line of another pane: at 45 degrees, 10 mm of tempered glass
+    has a maximum of 42 and a minimum of 15. What bears them does not bear the class."""
     for wind, zone in CLASSES:
-        pin("house-numbers", 67 + wind, pane(down=wind, up=zone))
-        ask("house-numbers", 4, house(wind=wind, zone=zone), by_edges(4, least_constant(200, 67 + wind), 1))
+        pin("house-numbers", 42 + wind, pane(down=wind, up=zone))
+        ask("house-numbers", 4, house(wind=wind, zone=zone), by_edges(4, least_constant(200, 42 + wind), 1))
 
 
-# class and zone, a thickness, and P at 45 degrees: by the wind down in the first three
-HOUSES = [(1, 1, 8, 98), (2, 1, 12, 140), (7, 1, 10, 210), (3, 2, 10, 255), (7, 1, 6, 207), (10, 2, 12, 980)]
+# Class and zone, kind and thickness, and P at 45 degrees. It is by the wind down in the first four. For C1 in zone 1 with 10 mm
+# it is so with kind 1 alone.
+HOUSES = [
+    (1, 1, 3, 8, 78), (2, 1, 3, 12, 110), (2, 1, 1, 12, 140), (7, 1, 1, 10, 210), (7, 1, 3, 10, 201), (7, 1, 4, 10, 201),
+    (7, 1, 2, 10, 201), (3, 2, 3, 10, 255), (7, 1, 3, 6, 207), (10, 2, 3, 12, 980),
+]
 
 
 def house_ribbons():
     """House panes as ribbons, on sheets of their cut size: P, and the spans of the two-edge column."""
-    for wind, zone, thick, pressure in HOUSES:
+    for wind, zone, kind, thick, pressure in HOUSES:
         for w, h in (200, 800), (900, 240):
-            sheet = dict(w=w + TWO_COVERS[thick], h=h + TWO_COVERS[thick])
-            pin("house-ribbon", pressure, house(w=w, h=h, wind=wind, zone=zone), thick=thick, **sheet)
+            sheet = dict(kind=kind, thick=thick, w=w + TWO_COVERS[thick], h=h + TWO_COVERS[thick])
+            pin("house-ribbon", pressure, house(w=w, h=h, wind=wind, zone=zone), **sheet)
     # laminated annealed glass of 12 mm spans 700 with two edges, and 1900 with AR=3
     for w, h, verdict in (700, 2101, 0), (2101, 700, 0), (701, 2103, 0), (701, 2104, 3), (2104, 701, 3):
         it = house(w=w, h=h, wind=8, zone=2)
@@ -908,7 +1090,7 @@ def house_cut_sizes():
 
 def most_houses():
     """256 pane lines: panes with the pressures of each class and zone, and the house panes themselves, in turn. At 74 degrees,
-    6 mm has a maximum of 19 and a minimum of 3, so the wind up gives P. The last panes are asked with glasses that just bear
+    6 mm has a maximum of 12 and a minimum of 3, so the wind up gives P. The last panes are asked with glasses that just bear
     it, and with glasses that do not."""
     houses = [house(angle=74, wind=wind, zone=zone) for wind, zone in CLASSES]
     panes = [(n + 1, houses[n // 2 % 20] if n % 2 else by_pressures(houses[n // 2 % 20])) for n in range(256)]
@@ -1069,11 +1251,11 @@ def write():
 
 
 for group in (
-    spans, columns, dead_loads, kinds, sizes, roots, orders, winds, live_loads, limits, stocks, ribbon_spans, ribbon_columns,
-    ribbon_sides, ribbon_live_loads, ribbon_sizes, ribbon_roots, ribbon_winds, ribbon_constants, ribbon_orders, ribbon_limits,
-    cut_sizes, cut_size_ways, cut_size_most, cut_size_least, cut_size_thicknesses, cut_size_fields, cut_size_orders,
-    sight_spans, sight_uniform_loads, sight_proportions, house_winds, house_figures, house_orders, house_numbers, house_ribbons,
-    house_cut_sizes,
+    spans, columns, dead_loads, dead_loads_by_kind, eased, paper_loads, rounded, governed, kinds, sizes, roots, orders, winds,
+    live_loads, limits, stocks, ribbon_spans, ribbon_columns, ribbon_sides, ribbon_live_loads, ribbon_sizes, ribbon_roots,
+    ribbon_winds, ribbon_constants, ribbon_orders, ribbon_limits, cut_sizes, cut_size_ways, cut_size_most, cut_size_least,
+    cut_size_thicknesses, cut_size_fields, cut_size_orders, sight_spans, sight_uniform_loads, sight_proportions, house_winds,
+    house_figures, house_orders, house_numbers, house_ribbons, house_cut_sizes,
 ):
     group()
 paper_job()

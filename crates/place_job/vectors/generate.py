@@ -1,13 +1,14 @@
 """Writes the vectors of place_job: the job files in data/, their names in args and what is due of each in stdout.
 
 Run `python3 generate.py`. Each job is made so that a full placing of it exists, or that so many panes are left over by any
-placing that serves the most, and that is stated here from document 01 and document 02, 2026-01 to 2026-05. Nothing is written
+placing that serves the most, and that is stated here from document 01 and document 02, 2026-01 to 2026-06. Nothing is written
 where placing.py, which finds it by the verdicts of judge_job's clauses.py, says otherwise, or where reader.py of check_job's
-vectors reads a file otherwise. By how many the jobs named roof-*-short and runs-*-short are short is not known from how they
-are made, and was taken from placing.py: of the runs it finds the number by two ways, of the roofs by the flow alone. Ribbons are
-panes with four edges that are more than three times as long as wide, along w or along h. House panes have a wind class and a
-zone. Where a job has only one short group, or only one that is short by all panes that are left over, and that is stated here,
-the line that is due of it stands in the job's notes.
+vectors reads a file otherwise. By how many the jobs named roof-*-short, eased-roof-* and runs-*-short are short is not known
+from how they are made, and was taken from placing.py: of the runs it finds the number by two ways, of the roofs by the flow
+alone. Ribbons are panes with four edges that are more than three times as long as wide, along w or along h. House panes have a
+wind class and a zone. Tempered glass is that of kinds 2, 3 and 4, whose maximum dead load is less than that of kind 1. Where a
+job has only one short group, or only one that is short by all panes that are left over, and that is stated here, the line that
+is due of it stands in the job's notes.
 """
 import pathlib
 import random
@@ -180,8 +181,8 @@ def first_fits():
     job("yield-by-turning", "full", [glass(w=2016, h=816), small], [pane(w=700, h=900), pane(w=800, h=2000)], chain=2)
     job("yield-by-kind", "full", [glass(kind=3), glass(kind=4)], [pane(top=2999), pane(top=3000)], chain=2)
     job("yield-by-edges", "full", [glass(), glass(two=1)], [pane(), pane(edges=2)], chain=2)
-    # 200 mm under P 567, which is 500 and a dead load of 67, need a constant of 4763
-    job("yield-by-wind", "full", [glass(four=4763), glass(four=4762)], [pane(), pane(down=500)], chain=2)
+    # 200 mm under P 542, which is 500 and a dead load of 42 for tempered glass of 10 mm, need a constant of 4657
+    job("yield-by-wind", "full", [glass(four=4657), glass(four=4656)], [pane(), pane(down=500)], chain=2)
     job("yield-of-2-sheets", "full", [large._replace(stock=2), small], [pane()] * 2 + [pane(w=1200, h=1200)], chain=2)
     job("yield-the-smallest", "full", [small, large._replace(kind=4)], [pane(top=2000), pane(top=4000)], chain=2)
     runs("yield-of-equals", "full", [1, 1, 1], [(1, 2), (0, 1), (0, 1)], (1, 0, 2), chain=2)
@@ -204,7 +205,8 @@ def shortages():
 
 def clauses_alone():
     """A rack of which each clause alone keeps a pane away, by its pressures and by its wind class."""
-    sheet = glass(9, kind=4, two=4000)
+    # over a span of 500, P 42 of the pane without wind needs a constant of 3241
+    sheet = glass(9, kind=4, two=3240)
     for name, make in ("no-glass-by-each-clause", pane), ("no-glass-by-each-clause-for-houses", house):
         panes = [make(top=3000), make(w=1300, h=3585), make(edges=2, awning=1, w=301), make(edges=2, w=500), make()]
         failing = [[number for number, fails in enumerate(clauses.CLAUSES, 1) if fails(it, sheet)] for it in panes]
@@ -245,8 +247,8 @@ def ribbon_yields():
     # the first sheet covers both ribbons, and no other sheet covers the second
     large, small = glass(w=1200, h=4000), glass(w=516, h=2516)
     job("ribbon-yield-by-size", "full", [large, small], [pane(w=2500, h=500), pane(w=600, h=3900)], chain=2)
-    # 200 mm under P 567 need a constant of 4763, as in yield-by-wind; by "two", both ribbons would need the second glass
-    first, second = glass(two=1, four=4763), glass(four=4762)
+    # 200 mm under P 542 need a constant of 4657, as in yield-by-wind; by "two", both ribbons would need the second glass
+    first, second = glass(two=1, four=4657), glass(four=4656)
     job("ribbon-yield-by-wind", "full", [first, second], [pane(w=200, h=1000), pane(w=1000, h=200, down=500)], chain=2)
 
 
@@ -483,7 +485,7 @@ def cover_yields():
 def cover_roofs():
     """Roofs with many sides that a sheet of 1200 or 1800 just covers in one thickness or another. They are short, by so many as
     the flow told, and full once each sheet is larger by its edge covers."""
-    for name, seed, glass_count, pane_count, most in ("roof-3", 63, 24, 48, 4), ("roof-4", 11, 64, 256, 9):
+    for name, seed, glass_count, pane_count, most in ("roof-3", 63, 24, 48, 4), ("roof-4", 18, 64, 256, 9):
         dice = random.Random(seed)
         sides = (600, 900, 1182, 1184, 1188, 1782, 1784, 1788)
         glasses, panes = random_roof(name, dice, glass_count, pane_count, most, sides)
@@ -539,30 +541,34 @@ def houses(name, due, glasses, panes, misreadings=(), **more):
     tell(name, due, glasses, panes, misreadings)
 
 
-# Classes and zones by rising P at an angle and in a thickness, with the least constant that bears it over a span of 1000. At 74
-# degrees, 6 mm has a maximum of 19 and a minimum of 3, and P is 3 less than the wind up in every class and zone. At 0 degrees,
-# 12 mm has a maximum of 114 and a minimum of 26, and P is 114 more than the wind down in these.
-BY_UP = 74, 6, [
+# An angle, a kind and a thickness, and classes and zones by rising P with the least constant that bears it over a span of 1000.
+# At 74 degrees, 6 mm of kind 3 has a maximum of 12 and a minimum of 3: P is 3 less than the wind up in every class and zone.
+BY_UP = 74, 3, 6, [
     (1, 1, 8125), (2, 1, 9592), (1, 2, 11046), (3, 1, 12084), (2, 2, 13039), (7, 1, 14595), (4, 1, 14765), (3, 2, 16341),
     (8, 1, 17833), (5, 1, 17945), (7, 2, 18304), (4, 2, 19975), (6, 1, 20881), (9, 1, 21680), (8, 2, 22339), (5, 2, 24249),
     (10, 1, 25220), (9, 2, 27130), (6, 2, 28214), (10, 2, 31544),
 ]
-BY_DOWN = 0, 12, [
-    (1, 2, 12570), (2, 2, 13191), (3, 1, 14457), (4, 1, 15969), (7, 1, 16032), (5, 1, 17917), (8, 1, 18056),
+# At 0 degrees, 12 mm of kind 3 has a maximum of 71 and a minimum of 26, and P is 71 more than the wind down in these; (1, 1) has
+# the P of (1, 2). By the maximum of kind 1, 114, it would be so in (2, 2), (5, 1) and (8, 1) too.
+BY_DOWN = 0, 3, 12, [(1, 2, 10724), (2, 1, 11446), (3, 1, 12885), (4, 1, 14561), (7, 1, 14629)]
+# At 30 degrees, 12 mm of kind 1 has a maximum of 98 and a minimum of 22, and P is 98 more than the wind down in these
+BY_DOWN_ANNEALED = 30, 1, 12, [
+    (1, 2, 11917), (2, 2, 12570), (3, 1, 13893), (4, 1, 15460), (7, 1, 15525), (5, 1, 17465), (8, 1, 17607),
 ]
+LADDERS = ("up", BY_UP), ("down", BY_DOWN), ("down-annealed", BY_DOWN_ANNEALED)
 NAMES = ("n1", "n2", "n3", "n4", "n5", "n6", "c1", "c2", "c3", "c4")
 
 
 def rising_rack(ladder):
     """The sheet at a place bears the classes up to its own. From place to place the sheets are less long."""
-    _, thick, steps = ladder
-    sheet = glass(thick=thick, w=1000 + 2 * clauses.EDGE_COVER[thick], h=2950 + 2 * clauses.EDGE_COVER[thick])
+    _, kind, thick, steps = ladder
+    sheet = glass(kind=kind, thick=thick, w=1000 + 2 * clauses.EDGE_COVER[thick], h=2950 + 2 * clauses.EDGE_COVER[thick])
     return [sheet._replace(h=sheet.h - 100 * place, four=constant) for place, (_, _, constant) in enumerate(steps)]
 
 
 def rising_house(ladder, first, last):
     """A house pane of the class and zone at `first` that the sheets from there to `last` suit, and no others."""
-    angle, _, steps = ladder
+    angle, *_, steps = ladder
     wind, zone, _ = steps[first]
     return house(angle=angle, w=1000, h=2950 - 100 * last, wind=wind, zone=zone)
 
@@ -570,8 +576,8 @@ def rising_house(ladder, first, last):
 def every_class():
     """Each class and zone with the sheet that alone suits it: this roof is short as soon as one of them is taken for a stronger
     one. And each by itself with a sheet that bears a little less: this is full if it is taken for a weaker one."""
-    for direction, ladder in ("up", BY_UP), ("down", BY_DOWN):
-        rack, steps = rising_rack(ladder), ladder[2]
+    for direction, ladder in LADDERS:
+        rack, steps = rising_rack(ladder), ladder[-1]
         roof = [rising_house(ladder, place, place) for place in range(len(steps))]
         if rows_of(rack, roof) != [[place] for place in range(len(steps))]:
             raise SystemExit(f"houses-{direction}: the panes do not suit the sheets that were meant")
@@ -594,8 +600,8 @@ def every_class():
 def house_chains():
     """Pane n suits the sheets n and n+1, and the last pane the first sheet alone: all the others move over. All of them are
     house panes, or every other one."""
-    for direction, ladder in ("up", BY_UP), ("down", BY_DOWN):
-        rack, count = rising_rack(ladder), len(ladder[2])
+    for direction, ladder in LADDERS:
+        rack, count = rising_rack(ladder), len(ladder[-1])
         roof = [rising_house(ladder, place, place + 1) for place in range(count - 1)] + [rising_house(ladder, 0, 0)]
         houses(f"house-chain-{direction}", "full", rack, roof, chain=count)
         mixed = [by_pressures(it) if place % 2 else it for place, it in enumerate(roof)]
@@ -614,9 +620,9 @@ def house_classes():
 
 
 def house_zones():
-    """10 mm at 45 degrees has a maximum of 67 and a minimum of 15. N3 has P 162 in zone 1 and 255 in zone 2, and over a span of
-    600 needs constants of 7637 and 9582. The long pane fits on the first sheet alone."""
-    rack = [glass(w=1016, h=616, four=7637), glass(w=616, h=616, four=9582)]
+    """10 mm of kind 3 at 45 degrees has a maximum of 42 and a minimum of 15. N3 has P 137 in zone 1 and 255 in zone 2, and over
+    a span of 600 needs constants of 7023 and 9582. The long pane fits on the first sheet alone."""
+    rack = [glass(w=1016, h=616, four=7023), glass(w=616, h=616, four=9582)]
     away, near = dict(wind=3, zone=1), dict(wind=3, zone=2)
     houses("long-pane-away-from-edges", "full", rack, [house(w=1000, h=600, **away), house(w=600, h=600, **near)], [other_zone])
     houses("long-pane-near-edges", "short by 1", rack, [house(w=600, h=1000, **near), house(w=600, h=600, **away)], [other_zone])
@@ -630,10 +636,10 @@ def house_yields():
     houses("house-yields-to-house", "full", [strong, weak], [house(), c4], chain=2)
     rack = [strong, weak._replace(stock=9)]
     houses("houses-two-for-one-sheet", "short by 1", rack, [c4, pane(), c4], [other_zone, class_below])
-    # a pane with the numbers of that class has P 77, and needs a constant of 1755
-    tiny, numbers = glass(four=1755), pane(down=10, up=2)
+    # a pane with the numbers of that class has P 52, and needs a constant of 1443
+    tiny, numbers = glass(four=1443), pane(down=10, up=2)
     job("class-numbers-as-pressures", "full", [tiny], [numbers])
-    job("class-numbers-as-pressures-one-below", "short by 1", [tiny._replace(four=1754)], [numbers])
+    job("class-numbers-as-pressures-one-below", "short by 1", [tiny._replace(four=1442)], [numbers])
     job("class-numbers-by-both-letters", "full", [strong, tiny], [numbers, c4], chain=2)
     houses("class-numbers-by-both-letters-short", "short by 1", [tiny._replace(stock=2)], [numbers, c4], [numbers_as_pressures])
 
@@ -662,7 +668,7 @@ def house_roofs():
     flow told."""
     for name, due, seed, glass_count, pane_count, most, misreadings in (
         ("roof-5", "full", 117, 24, 48, 4, [other_zone, class_above, class_below]),
-        ("roof-5-short", "short by 1", 130, 24, 48, 4, [other_zone, class_below, numbers_as_pressures]),
+        ("roof-5-short", "short by 1", 744, 24, 48, 4, [other_zone, class_below, numbers_as_pressures]),
         ("roof-6", "full", 10, 64, 256, 9, [other_zone, class_above, class_below]),
         ("roof-6-short", "short by 1", 74, 64, 256, 9, [other_zone, numbers_as_pressures]),
     ):
@@ -1001,9 +1007,76 @@ def random_shortages():
     """A roof with house panes, and runs that are short in four places. By how many, placing.py told."""
     dice = random.Random(309)
     glasses, panes = random_roof("roof-7-short", dice, 64, 256, 9, range(300, 1600, 50), houses=True)
-    job("roof-7-short", "short by 10", glasses, panes, **random_ids(dice, 64, 256))
+    eased("roof-7-short", "short by 8", "short by 10", glasses, panes, **random_ids(dice, 64, 256))
     _, less, rest = full_and_short_runs(29)
     runs("runs-3-short", "short by 8", less, **rest)
+
+
+# From here on, it matters that the maximum dead load of tempered glass is less than that of kind 1 (document 02, 2026-06).
+
+
+def eased(name, due, by_kind_1, glasses, panes, **more):
+    """A job, and what would be due of it if the maximum of kind 1 were that of every kind."""
+    job(name, due, glasses, panes, **more)
+    roof = [[place for place in row if not clauses.uniform_load_fails(it, glasses[place]._replace(kind=1))]
+            for it, row in zip(panes, rows_of(glasses, panes), strict=True)]
+    found = line_of(placing.shortage([it.stock for it in glasses], roof))
+    if found != by_kind_1:
+        raise SystemExit(f"{name}: by the maximum of kind 1 stated {by_kind_1}, but placing.py finds {found}")
+
+
+def eased_kinds():
+    """The 12 mm of document 02, at 0 degrees: 114 with kind 1 and 71 with the others. Under 60 more, a span of 800 needs
+    constants of 10553 and 9157."""
+    it = pane(angle=0, w=800, h=1500, down=60, up=95)
+    sheets = {kind: glass(kind=kind, thick=12, four=10552) for kind in (1, 2, 3, 4)}
+    for kind in 2, 3, 4:
+        eased(f"eased-kind-{kind}", "full", "short by 1", [sheets[kind]], [it])
+        least = sheets[kind]._replace(four=9157)
+        eased(f"eased-kind-{kind}-least", "full", "short by 1", [least], [it])
+        eased(f"eased-kind-{kind}-one-below", "short by 1", "short by 1", [least._replace(four=9156)], [it])
+    eased("not-eased-kind-1", "short by 1", "short by 1", [sheets[1]], [it])
+    eased("not-eased-kind-1-least", "full", "full", [sheets[1]._replace(four=10553)], [it])
+    # N2 in zone 1 has these pressures
+    n2 = house(angle=0, w=800, h=1500, wind=2, zone=1)
+    eased("eased-house", "full", "short by 1", [sheets[4]], [n2])
+    eased("not-eased-house", "short by 1", "short by 1", [sheets[1]], [n2])
+    eased("eased-all-but-kind-1", "short by 1", "short by 4", list(sheets.values()), [it, n2, n2, it], whole=range(1, 5))
+    # by the wind up, 300 less 26, nothing is eased: a span of 800 needs a constant of 13243
+    eased("not-eased-by-up", "short by 1", "short by 1", [sheets[3]._replace(four=13242)], [it._replace(up=300)])
+
+
+def eased_shapes():
+    """Two edges and ribbons. At 30 degrees 12 mm has 98 with kind 1 and 61 with the others, at 45 degrees 10 mm has 67 and 42:
+    a span of 700 needs constants of 6930 and 5468, one of 250 needs 2047 and 1621."""
+    for name, it, thick, least in (
+        ("two-edges", pane(2, 30, w=700, h=900), 12, 6930), ("ribbons", pane(w=250, h=1000), 10, 2047),
+    ):
+        constants = dict(two=least - 1) if it.edges == 2 else dict(four=least - 1)
+        rack = [glass(9 if kind == 1 else 1, kind, thick, **constants) for kind in (1, 2, 3, 4)]
+        eased(f"eased-{name}", "short by 1", "short by 4", rack, [it] * 4, whole=range(1, 5))
+
+
+def eased_numbers():
+    """On the sheets of eased_kinds, panes are served by chains that the maximum of kind 1 would bar, and more of them."""
+    it = pane(angle=0, w=800, h=1500, down=60, up=95)
+    annealed, tempered = glass(kind=1, thick=12), glass(kind=4, thick=12, four=10552)
+    # the second pane may not have monolithic glass, and the first moves over to it
+    eased("eased-yield", "full", "short by 1", [annealed, tempered], [it, it._replace(top=3000)], chain=2)
+    eased("eased-number", "short by 2", "short by 4", [annealed, tempered._replace(stock=2)], [it] * 5, whole=range(1, 6))
+
+
+def eased_roofs():
+    """Roofs with house panes. By how many they are short, also by the maximum of kind 1, the flow told."""
+    for name, due, by_kind_1, seed, glass_count, pane_count, most in (
+        ("eased-roof-1", "full", "short by 1", 216, 24, 48, 4),
+        ("eased-roof-1-short", "short by 2", "short by 3", 249, 24, 48, 4),
+        ("eased-roof-2", "full", "short by 1", 213, 64, 256, 9),
+        ("eased-roof-2-short", "short by 5", "short by 9", 206, 64, 256, 9),
+    ):
+        dice = random.Random(seed)
+        glasses, panes = random_roof(name, dice, glass_count, pane_count, most, range(300, 1600, 50), houses=True)
+        eased(name, due, by_kind_1, glasses, panes, **random_ids(dice, glass_count, pane_count))
 
 
 def write():
@@ -1024,7 +1097,7 @@ for group in (
     house_chains, house_classes, house_zones, house_yields, house_shapes, most_houses, house_roofs, group_orders, group_blocks,
     groups_of_one, groups_of_256, groups_between, group_letters, two_groups, largest_group, other_groups, served_by_chains,
     served_on_short_sheets, served_past_shortages, places_apart, places_with_nothing, joined_shortages, groups_with_more_beside,
-    short_by_most, number_by_clauses, random_shortages,
+    short_by_most, number_by_clauses, random_shortages, eased_kinds, eased_shapes, eased_numbers, eased_roofs,
 ):
     group()
 write()

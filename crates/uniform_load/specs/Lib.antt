@@ -2,7 +2,10 @@
 pub mod GlassLoads
 pub mod Wind
 pub mod UniformLoad
--- What follows for panes with four edges, and for panes by wind class.
+-- What follows for panes with four edges, for panes by wind class, and of the loads that tempered glass had before.
 pub mod FourEdges
 pub mod AsPressures
+pub mod LoadsBefore
+-- How large the numbers of clause 4 are.
+pub mod LoadBounds
 pub mod Internal

@@ -22,10 +22,13 @@ design_pressure p g =
 abbrev pub span_constant : ℕ → Glass → ℕ
 span_constant edges g = if eqb edges 2 then g.two else g.four
 
--- The clause fails where B > (K/10) / √(P/100), which is K / √P: squared, so that all numbers are whole.
-abbrev pub uniform_load_fails : Pane → Glass → Bool
-uniform_load_fails p g =
+-- The clause fails where B > (K/10) / √(P/100), which is K / √P: squared, so that all numbers are whole. Here of any P.
+abbrev pub fails_under : (P : ℕ) → Pane → Glass → Bool
+fails_under P p g =
     let B : ℕ = span_of p in
-    let P : ℕ = design_pressure p g in
     let K : ℕ = span_constant p.edges g in
     ltb (K * K) (B * B * P)
+
+-- And by the design pressure.
+abbrev pub uniform_load_fails : Pane → Glass → Bool
+uniform_load_fails p g = fails_under (design_pressure p g) p g

@@ -8,7 +8,8 @@ use crate::glass_loads::{max_dead_load, min_dead_load};
 use job_glass::Glass;
 
 // P, in units of 0.01 kPa: the dead load with the wind on it or, where that is more, what the glass's own weight leaves of the uplift.
-// With `max`, `place` misses bench/run's bar on the largest job of heavy shortage, by 1.29; so it takes 1.12.
+// With `max`, `place` takes 1.23 to 1.29 of safe Rust's time on the largest job of heavy shortage, where bench/run's bar is 1.25; so 1.18 to
+// 1.25.
 pub fn design_pressure(load: UniformLoad, glass: Glass) -> u64
     ensures { result ≡ pressure_on load glass }
 {

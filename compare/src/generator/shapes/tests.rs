@@ -3,7 +3,7 @@
 //! short.
 
 use super::side_by_side::{crowd, side_by_side, two_crowds};
-use super::{only_group, pane, sheet, sides, Shape, FIRST_WIDTHS, PRESSURES, THICK};
+use super::{kinds, only_group, pane, sheet, sides, Shape, FIRST_WIDTHS, PRESSURES, THICK};
 use crate::clauses::{Loads, FAILS_SIZE, FAILS_UNIFORM_LOAD, PASSES};
 use crate::generator::winds::Winds;
 use crate::job::{Glass, Pane, Wind, MOST_GLASSES, MOST_PANES};
@@ -17,7 +17,15 @@ fn roofs() -> Vec<Vec<Wind>> {
     winds.map(|winds| winds.choices(PRESSURES)).collect()
 }
 
-/// Every sheet of its interval passes for a pane, and no other, either way round and in every
+/// The kinds and thicknesses of the sheets for panes that begin with this width.
+fn kinds_and_thicknesses(first_width: u16) -> impl Iterator<Item = (u8, u8)> {
+    let kinds_in = move |thick| kinds(first_width, thick).iter();
+    THICK
+        .into_iter()
+        .flat_map(move |thick| kinds_in(thick).map(move |&kind| (kind, thick)))
+}
+
+/// Every sheet of its interval passes for a pane, and no other, either way round and in every kind and
 /// thickness.
 #[test]
 fn a_pane_passes_with_its_interval_alone() {
@@ -30,9 +38,12 @@ fn a_pane_passes_with_its_interval_alone() {
 
 fn check_roof(first_width: u16, winds: &[Wind]) {
     let places = 0..MOST_GLASSES;
-    let rack: Vec<[Glass; 3]> = places
-        .map(|at| THICK.map(|thick| sheet(first_width, at, thick, winds)))
-        .collect();
+    let sheets = |at| {
+        kinds_and_thicknesses(first_width)
+            .map(|glass| sheet(first_width, at, glass, winds))
+            .collect()
+    };
+    let rack: Vec<Vec<Glass>> = places.map(sheets).collect();
     for first in 0..MOST_GLASSES {
         for last in first.saturating_sub(1)..MOST_GLASSES {
             let (w, h) = sides(first_width, (first, last));
@@ -44,7 +55,7 @@ fn check_roof(first_width: u16, winds: &[Wind]) {
     }
 }
 
-fn check(pane: &Pane, rack: &[[Glass; 3]], interval: RangeInclusive<usize>) {
+fn check(pane: &Pane, rack: &[Vec<Glass>], interval: RangeInclusive<usize>) {
     let loads = Loads::of(pane);
     for (at, sheets) in rack.iter().enumerate() {
         let expected = if interval.contains(&at) {
@@ -65,16 +76,22 @@ fn a_sheet_just_bears_its_widest_pane() {
     for winds in roofs() {
         for first_width in FIRST_WIDTHS {
             for at in 0..MOST_GLASSES {
-                let panes = winds.iter();
-                let mut panes = panes.map(|&wind| pane(sides(first_width, (at, at)), wind));
-                let sheet = sheet(first_width, at, 12, &winds);
-                let four = sheet.four - 1;
-                let weaker = Glass { four, ..sheet };
-                let fails = |pane| Loads::of(&pane).judge(&weaker) == FAILS_UNIFORM_LOAD;
-                assert!(panes.any(fails), "{sheet:?}");
+                for glass in kinds_and_thicknesses(first_width) {
+                    check_least(first_width, at, glass, &winds);
+                }
             }
         }
     }
+}
+
+fn check_least(first_width: u16, at: usize, glass: (u8, u8), winds: &[Wind]) {
+    let panes = winds.iter();
+    let mut panes = panes.map(|&wind| pane(sides(first_width, (at, at)), wind));
+    let sheet = sheet(first_width, at, glass, winds);
+    let four = sheet.four - 1;
+    let weaker = Glass { four, ..sheet };
+    let fails = |pane| Loads::of(&pane).judge(&weaker) == FAILS_UNIFORM_LOAD;
+    assert!(panes.any(fails), "{sheet:?}");
 }
 
 /// A group of one pane, of some and of all.
