@@ -1,33 +1,25 @@
 //! Dead loads by kind: document 02, 2026-06. The figures were worked out from the document and from
 //! Table 6.1 of AS 1288 by hand.
 
-use crate::jobs::{accepted, glass};
+use crate::jobs::accepted;
 use crate::pairs::{down_governs, p, up_governs, KINDS};
-use compare::clauses::{Loads, FAILS_UNIFORM_LOAD, PASSES, THICKNESSES};
-use compare::job::{Glass, Pane, Wind};
+use crate::small_panes::{check_four_edges, check_two_edges, pane};
+use compare::clauses::THICKNESSES;
+use compare::job::Wind;
 use compare::roof::Roof;
 
-/// A four-edge pane of 100 by 100.
-fn pane(angle: u8, down: u16, up: u16) -> Pane {
-    Pane {
-        id: 1,
-        edges: 4,
-        angle,
-        w: 100,
-        h: 100,
-        wind: Wind::Pressures { down, up },
-        ..Pane::default()
-    }
+fn pressures(down: u16, up: u16) -> Wind {
+    Wind::Pressures { down, up }
 }
 
 /// Without wind, P is the maximum dead load.
 fn maximum(angle: u8, kind: u8, thick: u8) -> u32 {
-    p(&pane(angle, 0, 0), kind, thick)
+    p(&pane(angle, pressures(0, 0)), kind, thick)
 }
 
 /// So much of a pressure up of 1000 is left off.
 fn minimum(angle: u8, kind: u8, thick: u8) -> u32 {
-    1_000 - p(&pane(angle, 0, 1_000), kind, thick)
+    1_000 - p(&pane(angle, pressures(0, 1_000)), kind, thick)
 }
 
 #[test]
@@ -166,25 +158,24 @@ fn every_minimum_as_before() {
 /// 12 mm at 0 degrees has a minimum of 26 and maxima of 114 and 71.
 #[test]
 fn the_governing_pressure() {
-    let pressures = |down, up| KINDS.map(|kind| p(&pane(0, down, up), kind, 12));
+    let under = |down, up| KINDS.map(|kind| p(&pane(0, pressures(down, up)), kind, 12));
     // Down governs on all.
-    assert_eq!(pressures(50, 0), [164, 121, 121, 121]);
-    assert_eq!(pressures(50, 147), [164, 121, 121, 121]);
+    assert_eq!(under(50, 0), [164, 121, 121, 121]);
+    assert_eq!(under(50, 147), [164, 121, 121, 121]);
     // 148 less 26 is 122: up governs on all but annealed glass.
-    assert_eq!(pressures(50, 148), [164, 122, 122, 122]);
-    assert_eq!(pressures(50, 190), [164, 164, 164, 164]);
+    assert_eq!(under(50, 148), [164, 122, 122, 122]);
+    assert_eq!(under(50, 190), [164, 164, 164, 164]);
     // 191 less 26 is 165: up governs on all, and the kind makes no difference.
-    assert_eq!(pressures(50, 191), [165, 165, 165, 165]);
-    assert_eq!(pressures(0, 1_000), [974, 974, 974, 974]);
-    let between = pane(0, 50, 160);
+    assert_eq!(under(50, 191), [165, 165, 165, 165]);
+    assert_eq!(under(0, 1_000), [974, 974, 974, 974]);
+    let between = pane(0, pressures(50, 160));
     assert!(down_governs(&between, 1, 12) && !up_governs(&between, 1, 12));
     for kind in [2, 3, 4] {
         assert!(up_governs(&between, kind, 12) && !down_governs(&between, kind, 12));
     }
 }
 
-/// Kind, angle, thickness, pressure down, and the least constant of a span of 100, which is 100 times
-/// the root of P, rounded up.
+/// Kind, angle, thickness, pressure down, and the least constant.
 const LEAST_CONSTANTS: [(u8, u8, u8, u16, u32); 8] = [
     // 114 and 73: P is 187.
     (1, 0, 12, 73, 1_368),
@@ -202,40 +193,15 @@ const LEAST_CONSTANTS: [(u8, u8, u8, u16, u32); 8] = [
 #[test]
 fn clause_4_by_kind() {
     for (kind, angle, thick, down, least) in LEAST_CONSTANTS {
-        let judge = |two, four| {
-            let glass = Glass {
-                kind,
-                thick,
-                two,
-                four,
-                ..glass()
-            };
-            Loads::of(&pane(angle, down, 0)).judge(&glass)
-        };
-        assert_eq!(judge(1, least), PASSES, "kind {kind}");
-        assert_eq!(judge(99_999, least - 1), FAILS_UNIFORM_LOAD, "kind {kind}");
+        check_four_edges((angle, pressures(down, 0)), (kind, thick), least);
     }
 }
 
-/// With two edges, on which 12 mm at 30 degrees spans 700 in kind 1. 98 and 46 are 144, and 61 and 83.
+/// On two edges 12 mm at 30 degrees spans 700 in kind 1. 98 and 46 are 144, and 61 and 83.
 #[test]
 fn clause_4_with_two_edges() {
     for (kind, down) in [(1, 46), (2, 83), (3, 83), (4, 83)] {
-        let pane = Pane {
-            edges: 2,
-            ..pane(30, down, 0)
-        };
-        let judge = |two, four| {
-            let glass = Glass {
-                kind,
-                two,
-                four,
-                ..glass()
-            };
-            Loads::of(&pane).judge(&glass)
-        };
-        assert_eq!(judge(1_200, 1), PASSES, "kind {kind}");
-        assert_eq!(judge(1_199, 99_999), FAILS_UNIFORM_LOAD, "kind {kind}");
+        check_two_edges((30, pressures(down, 0)), (kind, 12), 1_200);
     }
 }
 

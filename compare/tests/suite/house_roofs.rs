@@ -3,6 +3,7 @@
 
 use crate::jobs::{glass, EXAMPLE_J, HOUSE_JOB};
 use crate::pairs::{down_governs, p};
+use crate::small_panes::{check_four_edges, check_two_edges, pane};
 use crate::table_a2::{
     classes_and_zones, pressure, right_pressures, ANY_POSITION, DOWN_CAN_GOVERN,
     DOWN_CAN_GOVERN_ON_ALL, GENERAL, NEAR_EDGES, SPEEDS,
@@ -18,19 +19,6 @@ use compare::tables::ROOF_PRESSURES;
 
 fn class(class: u16, zone: u16) -> Wind {
     Wind::Class { class, zone }
-}
-
-/// A four-edge pane of 100 by 100.
-fn pane(angle: u8, wind: Wind) -> Pane {
-    Pane {
-        id: 1,
-        edges: 4,
-        angle,
-        w: 100,
-        h: 100,
-        wind,
-        ..Pane::default()
-    }
 }
 
 #[test]
@@ -102,106 +90,45 @@ fn kinds_and_thicknesses() -> impl Iterator<Item = (u8, u8)> {
     (1..=4).flat_map(|kind| THICKNESSES.map(|thick| (kind, thick)))
 }
 
-/// Angle, thickness, class and zone, and the least constant of a span of 100 with annealed glass,
-/// which is 100 times the root of P, rounded up.
-const LEAST_ANNEALED: [(u8, u8, Wind, u32); 10] = [
-    // Down governs: 12 mm at 0 degrees has a maximum dead load of 114. With 44, P is 158.
-    (0, 12, Wind::Class { class: 1, zone: 1 }, 1_257),
+/// Angle, thickness, class and zone, and the least constants of annealed glass and of the other kinds.
+/// 12 mm at 0 degrees has maximum dead loads of 114 and 71, and a minimum of 26.
+const LEAST_CONSTANTS: [(u8, u8, Wind, u32, u32); 11] = [
+    // Down governs, with 44: P is 158 and 115.
+    (0, 12, Wind::Class { class: 1, zone: 1 }, 1_257, 1_073),
     // The same in zone 2, where up leaves 125 less 26.
-    (0, 12, Wind::Class { class: 1, zone: 2 }, 1_257),
-    // 114 and 60, where up leaves 173 less 26: P is 174.
-    (0, 12, Wind::Class { class: 2, zone: 2 }, 1_320),
-    // 114 and 207, where up leaves 325 less 26: P is 321.
-    (0, 12, Wind::Class { class: 5, zone: 1 }, 1_792),
-    // 114 and 212, where up leaves 321 less 26: P is 326.
-    (0, 12, Wind::Class { class: 8, zone: 1 }, 1_806),
+    (0, 12, Wind::Class { class: 1, zone: 2 }, 1_257, 1_073),
+    // With 143: P is 257 and 214, where up leaves 216 less 26.
+    (0, 12, Wind::Class { class: 7, zone: 1 }, 1_604, 1_463),
+    // On annealed glass down governs, with 60: P is 174. On the others up does, of 173: P is 147.
+    (0, 12, Wind::Class { class: 2, zone: 2 }, 1_320, 1_213),
+    // With 207: P is 321. Of 325: P is 299.
+    (0, 12, Wind::Class { class: 5, zone: 1 }, 1_792, 1_730),
+    // With 212: P is 326. Of 321: P is 295.
+    (0, 12, Wind::Class { class: 8, zone: 1 }, 1_806, 1_718),
+    // Up governs, of 439: P is 413.
+    (0, 12, Wind::Class { class: 6, zone: 1 }, 2_033, 2_033),
     // Up governs: 6 mm at 74 degrees has a minimum dead load of 3. Of 69, P is 66.
-    (74, 6, Wind::Class { class: 1, zone: 1 }, 813),
-    // 270 less 3: P is 267.
-    (74, 6, Wind::Class { class: 3, zone: 2 }, 1_635),
-    // 439 less 26, where 114 and 280 add up to 394: P is 413.
-    (0, 12, Wind::Class { class: 6, zone: 1 }, 2_033),
-    // 216 less 3: P is 213.
-    (74, 6, Wind::Class { class: 7, zone: 1 }, 1_460),
-    // 998 less 3: P is 995.
-    (74, 6, Wind::Class { class: 10, zone: 2 }, 3_155),
+    (74, 6, Wind::Class { class: 1, zone: 1 }, 813, 813),
+    // Of 270, P is 267.
+    (74, 6, Wind::Class { class: 3, zone: 2 }, 1_635, 1_635),
+    // Of 216, P is 213.
+    (74, 6, Wind::Class { class: 7, zone: 1 }, 1_460, 1_460),
+    // Of 998, P is 995.
+    (74, 6, Wind::Class { class: 10, zone: 2 }, 3_155, 3_155),
 ];
 
-/// The same with the other kinds. Where the pressure up governs on annealed glass too, nothing is
-/// changed.
-const LEAST_OF_OTHERS: [(u8, u8, Wind, u32); 10] = [
-    // Down governs: 12 mm at 0 degrees has a maximum dead load of 71. With 44, P is 115.
-    (0, 12, Wind::Class { class: 1, zone: 1 }, 1_073),
-    // The same in zone 2, where up leaves 125 less 26.
-    (0, 12, Wind::Class { class: 1, zone: 2 }, 1_073),
-    // 71 and 60, where up leaves 173 less 26: P is 147, and up governs.
-    (0, 12, Wind::Class { class: 2, zone: 2 }, 1_213),
-    // 71 and 207, where up leaves 325 less 26: P is 299, and up governs.
-    (0, 12, Wind::Class { class: 5, zone: 1 }, 1_730),
-    // 71 and 212, where up leaves 321 less 26: P is 295, and up governs.
-    (0, 12, Wind::Class { class: 8, zone: 1 }, 1_718),
-    // 71 and 143, where up leaves 216 less 26: P is 214, and down governs.
-    (0, 12, Wind::Class { class: 7, zone: 1 }, 1_463),
-    // Up governs: 6 mm at 74 degrees has a minimum dead load of 3. Of 69, P is 66.
-    (74, 6, Wind::Class { class: 1, zone: 1 }, 813),
-    // 439 less 26, where 71 and 280 add up to 351: P is 413.
-    (0, 12, Wind::Class { class: 6, zone: 1 }, 2_033),
-    // 216 less 3: P is 213.
-    (74, 6, Wind::Class { class: 7, zone: 1 }, 1_460),
-    // 998 less 3: P is 995.
-    (74, 6, Wind::Class { class: 10, zone: 2 }, 3_155),
-];
-
-/// The verdict on a pane of a span of 100, by its angle and wind, and a glass, by its kind and
-/// thickness and its constants "two" and "four".
-fn judge(
-    edges: u8,
-    (angle, wind): (u8, Wind),
-    (kind, thick): (u8, u8),
-    (two, four): (u32, u32),
-) -> usize {
-    let pane = Pane {
-        edges,
-        ..pane(angle, wind)
-    };
-    let glass = Glass {
-        kind,
-        thick,
-        two,
-        four,
-        ..glass()
-    };
-    Loads::of(&pane).judge(&glass)
-}
-
+/// With two edges, kinds 1 and 2 do not bear the point load in some of the places.
 #[test]
 fn clause_4_has_the_pressures_of_the_class() {
-    for (angle, thick, wind, least) in LEAST_ANNEALED {
-        check_four_edges((angle, wind), (1, thick), least);
-    }
-    for (angle, thick, wind, least) in LEAST_OF_OTHERS {
+    for (angle, thick, wind, annealed, others) in LEAST_CONSTANTS {
+        check_four_edges((angle, wind), (1, thick), annealed);
         for kind in [2, 3, 4] {
-            check_four_edges((angle, wind), (kind, thick), least);
+            check_four_edges((angle, wind), (kind, thick), others);
         }
         for kind in [3, 4] {
-            check_two_edges((angle, wind), (kind, thick), least);
+            check_two_edges((angle, wind), (kind, thick), others);
         }
     }
-}
-
-fn check_four_edges(place: (u8, Wind), glass: (u8, u8), least: u32) {
-    let judge = |k| judge(4, place, glass, k);
-    assert_eq!(judge((1, least)), PASSES, "{place:?} and {glass:?}");
-    let weaker = judge((99_999, least - 1));
-    assert_eq!(weaker, FAILS_UNIFORM_LOAD, "{place:?} and {glass:?}");
-}
-
-/// Kinds 1 and 2 do not bear the point load on two edges in some of the places.
-fn check_two_edges(place: (u8, Wind), glass: (u8, u8), least: u32) {
-    let judge = |k| judge(2, place, glass, k);
-    assert_eq!(judge((least, 1)), PASSES, "{place:?} and {glass:?}");
-    let weaker = judge((least - 1, 99_999));
-    assert_eq!(weaker, FAILS_UNIFORM_LOAD, "{place:?} and {glass:?}");
 }
 
 /// The pressure down governs where up less down is under the sum of the dead loads, maximum and

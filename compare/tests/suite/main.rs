@@ -33,6 +33,7 @@ mod reference;
 mod refusals;
 mod refused_lines;
 mod ribbons;
+mod small_panes;
 mod table_a2;
 mod wrong_calls;
 mod wrong_orders;

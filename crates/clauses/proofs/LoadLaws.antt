@@ -2,7 +2,7 @@
 -- the other three clauses do not read it.
 --     load_laws    as specs/LoadLaws.antt states them
 use mathlib.Core.Path.{◌≡◌}
-use mathlib.Core.Logic.{◌⊎◌, inl, inr}
+use mathlib.Core.Logic.{◌⊎◌}
 use mathlib.Core.Bool.{Bool, false}
 use native.Mathlib.Omega.{arith}
 use Rattle.job_glass.specs.declared.Glass.{Glass}
@@ -14,7 +14,7 @@ use Rattle.uniform_load.specs.LoadsBefore.{pressure_before}
 use Rattle.uniform_load.proofs.LoadsBefore.{loads_before_laws}
 use Rattle.clauses.specs.Kind.{kind_fails}
 use Rattle.clauses.specs.Verdict.{first_failure, verdict_of}
-use Rattle.clauses.specs.LoadLaws.{verdict_before, Turned, LoadLaws}
+use Rattle.clauses.specs.LoadLaws.{verdict_before, LoadLaws}
 use Rattle.clauses.specs.declared.judging.Verdict.TheVariants.{Passes, Fails}
 
 -- The laws, of any tests, where the fourth is met if it was.
@@ -40,9 +40,9 @@ module _ (p : Pane) (g : Glass) where
   unfolding verdict_of
   pass = of_tests.pass
 
-  kept_or_turned : (verdict_of p g ≡ verdict_before p g) ⊎ Turned p g
+  kept_or_turned : (verdict_of p g ≡ verdict_before p g) ⊎ ((verdict_before p g ≡ Fails 4) × (verdict_of p g ≡ Passes))
   unfolding verdict_of
-  kept_or_turned = elim of_tests.turned [ inl same ↦ inl same | inr both ↦ inr (record { failed = both.0; passes = both.1 }) ]
+  kept_or_turned = of_tests.turned
 
   pub load_laws : LoadLaws p g
   load_laws = record { annealed_kept = annealed; pass_kept = pass; kept_or_turned = kept_or_turned }

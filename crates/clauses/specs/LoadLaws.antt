@@ -16,15 +16,11 @@ abbrev pub verdict_before : Pane → Glass → Verdict
 verdict_before p g =
     first_failure (kind_fails p g) (size_fails p g) (point_load_fails p g) (fails_under (pressure_before p g) p g)
 
--- A failure at clause 4 that turned into a pass.
-pub record Turned (p : Pane) (g : Glass) : Type 0 where
-  pub failed : verdict_before p g ≡ Fails 4
-  pub passes : verdict_of p g ≡ Passes
-
 pub record LoadLaws (p : Pane) (g : Glass) : Type 0 where
   -- of kind 1 no verdict changed
   pub annealed_kept : g.kind ≡ 1 → verdict_of p g ≡ verdict_before p g
   -- of every kind, nothing changed but that some failures at clause 4 turned into passes
-  pub kept_or_turned : (verdict_of p g ≡ verdict_before p g) ⊎ Turned p g
+  pub kept_or_turned :
+      (verdict_of p g ≡ verdict_before p g) ⊎ ((verdict_before p g ≡ Fails 4) × (verdict_of p g ≡ Passes))
   -- so what passed passes
   pub pass_kept : verdict_before p g ≡ Passes → verdict_of p g ≡ Passes

@@ -17,7 +17,7 @@ annealed_maximum row_maximum thick = divided_up (row_maximum * thick) 6
 abbrev pub tempered_maximum : (row_maximum thick : ℕ) → ℕ
 tempered_maximum row_maximum thick = divided_up (row_maximum * 31 * thick) 300
 
--- The maximum of a glass, by its kind. Every file's kinds are 1 to 4, so that what is not 1 is 2, 3 or 4.
+-- The maximum of a glass, by its kind. The kinds of an accepted file are 1 to 4, so what is not 1 is 2, 3 or 4.
 abbrev pub max_dead_load : (row_maximum : ℕ) → Glass → ℕ
 max_dead_load row_maximum g =
     if eqb g.kind 1 then annealed_maximum row_maximum g.thick else tempered_maximum row_maximum g.thick
