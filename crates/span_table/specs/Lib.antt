@@ -3,3 +3,4 @@ pub mod Columns
 pub mod Spans
 -- What holds of the whole table.
 pub mod SpanRule
+pub mod InSteps
