@@ -1,4 +1,4 @@
--- What selects an entry; the test on the tables; the rule of the spans, and their steps.
+-- What selects a row; the test of the entries; the rule of the spans, and their steps.
 pub mod Rows
 pub mod Entries
 pub mod SpanRule
