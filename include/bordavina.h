@@ -11,8 +11,7 @@
  * lines are the same but for the last two: wind pressures down and up, 0 to 1000 in units of 0.01 kPa, on a P line; a wind class,
  * 1 to 10 for N1 to N6 and C1 to C4, and a zone, 1 or 2, on a Q line. A class and a zone stand for the ultimate pressures on
  * roofs of AS 1288, Table A2: zone 1 is away from edges, zone 2 within 1.2 m of one. For which houses the table is meant is not
- * checked. A P pane with those pressures gets the same verdicts. Before request 2026-03, Q lines were refused with
- * BORDAVINA_LINE_FORM. */
+ * checked. A P pane with those pressures gets the same verdicts. */
 #ifndef BORDAVINA_H
 #define BORDAVINA_H
 
@@ -46,7 +45,7 @@ enum {
     BORDAVINA_LINE_FORM = 4,      /* the line is not of its part's form, or lacks its newline */
     BORDAVINA_NUMBER_VALUE = 5,   /* a number is not among its allowed values */
     BORDAVINA_REPEATED_ID = 6,    /* the id is already on an earlier line of the part */
-    BORDAVINA_TOO_LONG = 7,       /* given by no call any more, and not used again: long panes are accepted */
+    BORDAVINA_TOO_LONG = 7,       /* given by no call: long panes are accepted; the number stays free */
     BORDAVINA_TOO_MANY_LINES = 8, /* the 65th glass line or the 257th pane line begins */
 
     /* bordavina_place; offset 0. */
@@ -99,8 +98,7 @@ bordavina_verdict_result bordavina_verdict(const uint8_t *file, size_t file_leng
  * If it is, `group` is 0 and `short_group` is untouched. If it is not, the first `group` entries of `short_group` are ids of
  * panes, from the lowest up and each once, that show why: the stocks of all glasses that pass for at least one of these
  * panes, each glass counted once, add up to less than `group`, by exactly `wanted` less `placed`. Every pane that has 0 is
- * among them, and no group of panes of the file is short by more. Later entries are untouched. Before request 2026-04 the
- * ids came in the order of the file.
+ * among them, and no group of panes of the file is short by more. Later entries are untouched.
  *
  * At least `wanted` less `placed` sheets are missing. Where for every pane that has 0 some glass of the file passes, so many
  * are enough: one more sheet of such a glass, whichever it is, for each of those panes.

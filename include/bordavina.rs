@@ -19,7 +19,7 @@ pub mod refusal {
     pub const LINE_FORM: usize = 4;
     pub const NUMBER_VALUE: usize = 5;
     pub const REPEATED_ID: usize = 6;
-    /// Given by no call any more, and not used again.
+    /// Given by no call; the number stays free.
     pub const TOO_LONG: usize = 7;
     pub const TOO_MANY_LINES: usize = 8;
     pub const LIST_TOO_SHORT: usize = 9;

@@ -1,7 +1,7 @@
 //! The verdict on a pane and a glass: document 01, "The four clauses", and document 02, 2026-01 for
 //! ribbons, 2026-02 for clause 2, and 2026-03 and 2026-06 for the wind and the dead loads of clause 4.
 
-use crate::job::{Glass, Pane};
+use crate::job::{Glass, Job, Pane};
 use crate::reader::read;
 use crate::refusal::{Refusal, NO_GLASS, NO_PANE};
 use crate::tables::{
@@ -38,8 +38,9 @@ pub struct Loads {
     pub column: usize,
     /// The span B in mm: w with two edges, the shorter side with four.
     pub span: u16,
-    /// The pressure P in units of 0.01 kPa, by dead load and thickness.
-    pressures: [[u32; 4]; 2],
+    /// The pressures downward and upward in units of 0.01 kPa, by dead load and thickness. P is the larger
+    /// one.
+    pressures: [[(u32, u32); 4]; 2],
     /// B times B times P, by dead load and thickness.
     bbp: [[u64; 4]; 2],
 }
@@ -51,9 +52,9 @@ impl Loads {
             _ => pane.shorter_side(),
         };
         let wind = pane.wind.pressures();
-        let by_thickness = |kind| THICKNESSES.map(|thick| pressure(kind, pane.angle, wind, thick));
+        let by_thickness = |kind| THICKNESSES.map(|thick| pressures(kind, pane.angle, wind, thick));
         let pressures = KINDS_BY_DEAD_LOAD.map(by_thickness);
-        let bbp = |p| u64::from(span) * u64::from(span) * u64::from(p);
+        let bbp = |(downward, upward)| bbp(span, u32::max(downward, upward));
         Loads {
             laminated_only: pane.top >= 3_000,
             cut_sizes: THICKNESSES.map(|thick| cut_size(pane, thick)),
@@ -71,29 +72,54 @@ impl Loads {
         if self.laminated_only && glass.kind == 4 {
             return FAILS_KIND;
         }
-        let thickness = thickness_index(glass.thick);
-        if !lies_within(self.cut_sizes[thickness], glass) {
+        if !lies_within(self.cut_sizes[thickness_index(glass.thick)], glass) {
             return FAILS_SIZE;
         }
-        let kind = usize::from(glass.kind) - 1;
-        if self.span > SPANS[kind][self.live_load][thickness][self.column] {
+        if self.span > self.entry(glass) {
             return FAILS_POINT_LOAD;
         }
-        let k = u64::from(if self.four_edges {
-            glass.four
-        } else {
-            glass.two
-        });
-        if self.bbp[dead_load_index(glass.kind)][thickness] > k * k {
+        let k = u64::from(self.constant(glass));
+        if self.bbp(glass) > k * k {
             return FAILS_UNIFORM_LOAD;
         }
         PASSES
     }
 
-    /// The pressure P in units of 0.01 kPa, with glass of this kind and thickness.
-    pub fn pressure(&self, kind: u8, thick: u8) -> u32 {
+    /// Clause 3: the longest span in mm.
+    pub fn entry(&self, glass: &Glass) -> u16 {
+        let kind = usize::from(glass.kind) - 1;
+        SPANS[kind][self.live_load][thickness_index(glass.thick)][self.column]
+    }
+
+    /// Clause 4: the constant K.
+    pub fn constant(&self, glass: &Glass) -> u32 {
+        if self.four_edges {
+            glass.four
+        } else {
+            glass.two
+        }
+    }
+
+    /// Clause 4: B times B times P.
+    pub fn bbp(&self, glass: &Glass) -> u64 {
+        self.bbp[dead_load_index(glass.kind)][thickness_index(glass.thick)]
+    }
+
+    /// The pressures downward and upward in units of 0.01 kPa, with glass of this kind and thickness.
+    pub fn pressures(&self, kind: u8, thick: u8) -> (u32, u32) {
         self.pressures[dead_load_index(kind)][thickness_index(thick)]
     }
+
+    /// The pressure P in units of 0.01 kPa, with glass of this kind and thickness.
+    pub fn pressure(&self, kind: u8, thick: u8) -> u32 {
+        let (downward, upward) = self.pressures(kind, thick);
+        downward.max(upward)
+    }
+}
+
+/// B times B times P, with a span B and a pressure P.
+pub fn bbp(span: u16, pressure: u32) -> u64 {
+    u64::from(span) * u64::from(span) * u64::from(pressure)
 }
 
 /// The place of the dead load of a kind among the two.
@@ -119,7 +145,7 @@ pub fn cut_size(pane: &Pane, thick: u8) -> (u16, u16) {
 }
 
 /// Whether a cut size lies within the sheet, w along w or w along h.
-fn lies_within((w, h): (u16, u16), sheet: &Glass) -> bool {
+pub fn lies_within((w, h): (u16, u16), sheet: &Glass) -> bool {
     let along = w <= sheet.w && h <= sheet.h;
     let across = w <= sheet.h && h <= sheet.w;
     along || across
@@ -127,7 +153,11 @@ fn lies_within((w, h): (u16, u16), sheet: &Glass) -> bool {
 
 /// The verdict on the pane and the glass of these ids: the first clause that fails, or `PASSES`.
 pub fn verdict(file: &[u8], pane_id: u32, glass_id: u32) -> Result<usize, Refusal> {
-    let job = read(file)?;
+    verdict_of(&read(file)?, pane_id, glass_id)
+}
+
+/// The same of an accepted file.
+pub fn verdict_of(job: &Job, pane_id: u32, glass_id: u32) -> Result<usize, Refusal> {
     let mut panes = job.panes().iter();
     let pane = panes
         .find(|pane| u32::from(pane.id) == pane_id)
@@ -161,11 +191,11 @@ fn column(pane: &Pane) -> usize {
     }
 }
 
-/// P: the larger of the downward and the upward combination of dead load and wind.
-fn pressure(kind: u8, angle: u8, (down, up): (u16, u16), thick: u8) -> u32 {
+/// The downward and the upward combination of dead load and wind. P is the larger one.
+fn pressures(kind: u8, angle: u8, (down, up): (u16, u16), thick: u8) -> (u32, u32) {
     let downward = maximum_dead_load(kind, angle, thick) + u32::from(down);
     let upward = u32::from(up).saturating_sub(minimum_dead_load(angle, thick));
-    downward.max(upward)
+    (downward, upward)
 }
 
 /// The maximum dead load in units of 0.01 kPa: that of the last row of Table 6.1 which the angle
@@ -183,6 +213,11 @@ pub fn maximum_dead_load(kind: u8, angle: u8, thick: u8) -> u32 {
 /// The minimum dead load of every kind in units of 0.01 kPa, rounded down: that of the first row of
 /// Table 6.1 which the angle does not pass, in this thickness.
 pub fn minimum_dead_load(angle: u8, thick: u8) -> u32 {
+    minimum_row(angle) * u32::from(thick) / 6
+}
+
+/// The figure of Table 6.1 from which the minimum is worked out.
+pub fn minimum_row(angle: u8) -> u32 {
     let at_or_above = usize::from(angle.div_ceil(DEGREES_A_ROW));
-    MINIMUM_DEAD_LOADS[at_or_above] * u32::from(thick) / 6
+    MINIMUM_DEAD_LOADS[at_or_above]
 }

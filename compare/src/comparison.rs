@@ -3,7 +3,7 @@
 
 use crate::bordavina::{CheckResult, PlaceResult, VerdictResult, TEXT_SIZE};
 use crate::calls::Library;
-use crate::clauses;
+use crate::clauses::verdict_of;
 use crate::lent::LentList;
 use crate::outcome::Outcome;
 use crate::place_call::{check_placed, check_refused, Lists};
@@ -12,8 +12,8 @@ use crate::reader;
 use crate::refusal::{Refusal, SHORT_LIST};
 use crate::roof::Roof;
 use crate::rules::check_flow;
-use crate::shortage::{first_fit, places};
 use crate::text::check_text;
+use crate::tried::{Reading, Tried};
 
 const ANSWER_MARK: u32 = 0xa000_0000;
 const GROUP_MARK: u32 = 0xb000_0000;
@@ -36,6 +36,7 @@ pub fn compare<L: Library>(library: &L, file: &[u8], random: &mut Random) -> Out
     case.other_ids(random, &mut outcome);
     case.places(random, &mut outcome);
     case.report(&mut outcome);
+    outcome.tally.tried = case.tried(&outcome);
     outcome
 }
 
@@ -59,18 +60,10 @@ struct Case<'a, L> {
 }
 
 impl<L: Library> Case<'_, L> {
-    /// Holds the max flow, by which placings are measured, to the rules itself. Counts what a short roof
-    /// tries of them.
+    /// Holds the max flow, by which placings are measured, to the rules itself.
     fn flow(&self, outcome: &mut Outcome) {
-        let Ok(roof) = &self.expected else {
-            return;
-        };
-        outcome.find_broken("max flow", check_flow(roof));
-        if roof.shortage() > 0 {
-            let tally = &mut outcome.tally;
-            tally.short_by_more += u64::from(roof.shortage() > 1);
-            tally.short_in_places += u64::from(places(roof) > 1);
-            tally.first_fit_fewer += u64::from(first_fit(roof) < roof.flow.most_served);
+        if let Ok(roof) = &self.expected {
+            outcome.find_broken("max flow", check_flow(roof));
         }
     }
 
@@ -84,10 +77,7 @@ impl<L: Library> Case<'_, L> {
                     ..CheckResult::default()
                 }
             }
-            Err(refusal) => {
-                outcome.tally.refused[refusal.number] += 1;
-                CheckResult::from(*refusal)
-            }
+            Err(refusal) => CheckResult::from(*refusal),
         };
         let answer = self.library.check(self.file);
         if answer != expected {
@@ -120,7 +110,10 @@ impl<L: Library> Case<'_, L> {
         }
         for _ in 0..10 {
             let (pane_id, glass_id) = (random.pick(&ids), random.pick(&ids));
-            let expected = clauses::verdict(self.file, pane_id, glass_id);
+            let expected = match &self.expected {
+                Ok(roof) => verdict_of(&roof.job, pane_id, glass_id),
+                Err(refusal) => Err(*refusal),
+            };
             self.verdict(pane_id, glass_id, expected, outcome);
         }
     }
@@ -133,15 +126,12 @@ impl<L: Library> Case<'_, L> {
         outcome: &mut Outcome,
     ) {
         let expected = match expected {
-            Ok(clause) => {
-                outcome.tally.verdicts[clause] += 1;
-                VerdictResult {
-                    clause,
-                    ..VerdictResult::default()
-                }
-            }
+            Ok(clause) => VerdictResult {
+                clause,
+                ..VerdictResult::default()
+            },
             Err(refusal) => {
-                outcome.tally.refused_verdicts += 1;
+                outcome.refused_calls.push(refusal.number);
                 VerdictResult::from(refusal)
             }
         };
@@ -196,6 +186,7 @@ impl<L: Library> Case<'_, L> {
         let broken = match &self.expected {
             Err(refusal) => check_refused(*refusal, &answer, &lists),
             Ok(roof) if answers.min(group) < roof.job.panes().len() => {
+                outcome.refused_calls.push(SHORT_LIST);
                 check_refused(Refusal::new(SHORT_LIST, 0), &answer, &lists)
             }
             Ok(roof) => check_placed(roof, &answer, &lists),
@@ -203,6 +194,12 @@ impl<L: Library> Case<'_, L> {
         let call = format!("place with lists of {answers} and {group}");
         outcome.find_broken(&call, broken);
         (answer, lists)
+    }
+
+    /// What the file and the calls on it try.
+    fn tried(&self, outcome: &Outcome) -> Tried {
+        let roof = self.expected.as_ref().map_err(|refusal| *refusal);
+        Tried::by(&Reading::of(self.file, roof, &outcome.refused_calls))
     }
 
     fn report(&self, outcome: &mut Outcome) {

@@ -149,9 +149,18 @@ impl Pane {
         self.w.min(self.h)
     }
 
+    /// Whether the line begins with `Q`: document 02, 2026-03.
+    pub fn is_by_class(&self) -> bool {
+        matches!(self.wind, Wind::Class { .. })
+    }
+
     /// A ribbon has four edges and is over 3 times as long as wide: document 02, 2026-01.
     pub fn is_ribbon(&self) -> bool {
         self.edges == 4 && self.longer_side() > 3 * self.shorter_side()
+    }
+
+    pub fn is_ribbon_by_class(&self) -> bool {
+        self.is_ribbon() && self.is_by_class()
     }
 }
 

@@ -1,4 +1,4 @@
-//! A second implementation of document 01 (the owner's scope document) and requests 2026-01 to 2026-06
+//! A second implementation of document 01 (the owner's scope document) and requests 2026-01 to 2026-07
 //! of document 02 (the owner's change requests), written from those alone, and the checks by which the
 //! proved library, which is linked here, is compared with it. Where they differ, document 02 holds.
 #![deny(unsafe_code)]
@@ -25,3 +25,4 @@ pub mod shortage;
 pub mod tables;
 pub mod tally;
 pub mod text;
+pub mod tried;

@@ -19,6 +19,8 @@ pub struct Outcome {
     pub findings: Vec<Finding>,
     pub finding_count: usize,
     pub tally: Tally,
+    /// The numbers with which verdicts and placings were to be refused.
+    pub refused_calls: Vec<usize>,
     /// The text that the library gave.
     pub text: Vec<u8>,
 }

@@ -47,6 +47,12 @@ pub fn read(file: &[u8]) -> Result<Job, Refusal> {
     })
 }
 
+/// Where the pane part of a file begins, if the file has parts.
+pub fn pane_offset(file: &[u8]) -> Option<usize> {
+    let (_, pane_offset, _) = parts(file).ok()?;
+    Some(pane_offset)
+}
+
 /// The offsets of the glass part, the pane part and the trailer.
 fn parts(file: &[u8]) -> Result<(usize, usize, usize), Refusal> {
     if !(TRAILER_BYTES..=MOST_BYTES).contains(&file.len()) {
@@ -99,7 +105,7 @@ fn read_part<const N: usize, T>(
 
 /// The letter, which may be any byte, and the numbers of the line at the front of `bytes`, and the bytes
 /// after its newline.
-fn line<const N: usize>(bytes: &[u8]) -> Option<(u8, [u32; N], &[u8])> {
+pub fn line<const N: usize>(bytes: &[u8]) -> Option<(u8, [u32; N], &[u8])> {
     let (&letter, mut rest) = bytes.split_first()?;
     let mut numbers = [0; N];
     for slot in &mut numbers {

@@ -9,6 +9,8 @@ use crate::job::Job;
 #[derive(Clone, Debug)]
 pub struct Roof {
     pub job: Job,
+    /// What the clauses need of each pane.
+    pub loads: Vec<Loads>,
     /// The verdicts: for each pane, the first clause that each glass fails, or `PASSES`.
     pub clauses: Vec<Vec<usize>>,
     pub flow: Flow,
@@ -16,17 +18,18 @@ pub struct Roof {
 
 impl Roof {
     pub fn of(job: Job) -> Roof {
-        let verdicts = |pane| {
-            let loads = Loads::of(pane);
+        let loads: Vec<Loads> = job.panes().iter().map(Loads::of).collect();
+        let verdicts = |loads: &Loads| {
             let glasses = job.glasses().iter();
             glasses.map(|glass| loads.judge(glass)).collect()
         };
-        let clauses: Vec<Vec<usize>> = job.panes().iter().map(verdicts).collect();
+        let clauses: Vec<Vec<usize>> = loads.iter().map(verdicts).collect();
         let passing: Vec<Vec<usize>> = clauses.iter().map(|row| passing(row).collect()).collect();
         let stocks: Vec<u16> = job.glasses().iter().map(|glass| glass.stock).collect();
         Roof {
             flow: Flow::of(&passing, &stocks),
             clauses,
+            loads,
             job,
         }
     }

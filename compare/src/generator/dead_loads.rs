@@ -28,8 +28,9 @@ pub fn plan(random: &mut Random) -> Plan {
 
 /// Panes that are alike but for the wind. For each kind that clauses 1 to 3 allow them there is the
 /// glass that just bears the first one, on which the pressure down governs, and one whose constant is
-/// 1 less. On two panes the pressure up governs and gives the same P, with the dead load of annealed
-/// glass and with the lesser one. On the last, it depends on the dead load which of the two governs.
+/// 1 less. On two panes the pressure up gives the same P, with the dead load of annealed glass and with
+/// the lesser one; it governs, or at times down gives the same P too. On the last, it depends on the dead
+/// load which of the two governs.
 fn add_row(plan: &mut Plan, row: u8, random: &mut Random) {
     let angle = angle_of_row(row, random);
     let thick = random.pick(&THICKNESSES);
@@ -49,7 +50,8 @@ fn add_row(plan: &mut Plan, row: u8, random: &mut Random) {
     plan.panes.push(by_down);
     for kind in KINDS_BY_DEAD_LOAD {
         let up = p(&by_down, kind, thick) + minimum;
-        plan.panes.push(with(0, up as u16));
+        let down = if random.one_in(6) { down } else { 0 };
+        plan.panes.push(with(down, up as u16));
     }
     let loads = KINDS_BY_DEAD_LOAD.map(|kind| maximum_dead_load(kind, angle, thick));
     let [most, least] = loads;

@@ -1,5 +1,5 @@
 //! Spans about the entries of Tables 6.2 to 6.5: document 01, "The four clauses", clause 3, and for
-//! ribbons document 02, 2026-01.
+//! ribbons document 02, 2026-01, with pressures or a wind class (2026-03).
 
 use super::easy::strong_glass;
 use super::plan::either_way_round;
@@ -16,7 +16,18 @@ pub fn entry(random: &mut Random) -> (Pane, Glass) {
     let row = Row::draw(random);
     let column = random.below(4);
     let b = (row.spans()[column] + random.pick(&[0, 1, 1, 2, 2])).max(2) - 1;
-    (row.pane_of_span(b, column, random), row.glass())
+    let pane = row.pane_of_span(b, column, random);
+    (with_any_wind(pane, random), row.glass())
+}
+
+/// The pane as it is, or by a wind class. The strongest glass bears either.
+fn with_any_wind(pane: Pane, random: &mut Random) -> Pane {
+    let by_class = Wind::Class {
+        class: random.draw(1..=10),
+        zone: random.draw(1..=2),
+    };
+    let wind = random.pick(&[pane.wind, by_class]);
+    Pane { wind, ..pane }
 }
 
 /// A pane at this angle and with no wind that clauses 1 to 3 let pass with glass of this kind and
@@ -66,7 +77,7 @@ pub fn three_times(random: &mut Random) -> (Pane, Glass) {
     let b = random.pick(&[two_edge + 1, ar_3]).clamp(1, WIDEST_RIBBON);
     let longer = 3 * b + random.pick(&[0, 1, 2]) - 1;
     let pane = row.pane(4, either_way_round((b, longer), random), random);
-    (pane, row.glass())
+    (with_any_wind(pane, random), row.glass())
 }
 
 /// A row of the tables.

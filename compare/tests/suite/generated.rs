@@ -4,8 +4,8 @@ use crate::reference::Reference;
 use compare::comparison::compare;
 use compare::generator::{generate, Kind};
 use compare::random::Random;
-use compare::refusal::OF_A_FILE;
 use compare::tally::Tally;
+use compare::tried::NO_CAUSE;
 
 #[test]
 fn a_file_is_given_by_seed_and_index() {
@@ -30,20 +30,25 @@ fn every_case_is_generated() {
         largest = largest.max(outcome.text.len());
     }
     let few = 10;
-    let counts = [tally.accepted, tally.full_placings, tally.short_placings];
-    let counts = counts.into_iter().chain(tally.kinds);
-    let counts = counts.chain(OF_A_FILE.map(|number| tally.refused[number]));
-    let counts: Vec<u64> = counts.chain(tally.verdicts).collect();
-    assert_eq!(counts.len(), 3 + Kind::ALL.len() + 7 + 5);
-    assert!(counts.iter().all(|&count| count >= few), "{tally}");
-    assert_eq!(tally.refused[7], 0, "{tally}");
-    let tried = [
+    let counts = [
+        tally.accepted,
+        tally.full_placings,
+        tally.short_placings,
         tally.reordered_groups,
-        tally.short_by_more,
-        tally.short_in_places,
-        tally.first_fit_fewer,
     ];
-    assert!(tried.iter().all(|&count| count >= few), "{tally}");
+    let counts: Vec<u64> = counts.into_iter().chain(tally.kinds).collect();
+    assert_eq!(counts.len(), 4 + Kind::ALL.len());
+    assert!(counts.iter().all(|&count| count >= few), "{tally}");
+    for title in ["refused files", "first clause that fails"] {
+        for (name, count) in tally.tried.lines(title) {
+            let expected = if name == NO_CAUSE { 0..=0 } else { few..=2_000 };
+            assert!(expected.contains(&count.files), "{name}: {tally}");
+        }
+    }
+    for (name, count) in tally.tried.lines("placings") {
+        let on_purpose = name.starts_with("short") || name.starts_with("full");
+        assert!(!on_purpose || count.files >= few, "{name}: {tally}");
+    }
     assert!(
         largest > 2_000,
         "no text of a large roof, at most {largest}"

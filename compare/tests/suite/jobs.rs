@@ -100,7 +100,7 @@ T 00000 00066
 ";
 
 /// A file of these parts, without notes.
-fn file(glass_part: &str, pane_part: &str) -> Vec<u8> {
+pub fn file(glass_part: &str, pane_part: &str) -> Vec<u8> {
     format!("{glass_part}{pane_part}T 00000 {:05}\n", glass_part.len()).into_bytes()
 }
 

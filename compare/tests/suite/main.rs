@@ -1,6 +1,6 @@
 //! The second implementation on the examples of document 01, on ribbons, cut sizes, house roofs and
 //! dead loads, the checks on wrong answers, wrong orders and shortages shown in part, the max flow,
-//! the generator, and the numbers that the interface names.
+//! the generator, the counts of what a file tries, and the numbers that the interface names.
 
 mod chains;
 mod cut_sizes;
@@ -35,6 +35,14 @@ mod refused_lines;
 mod ribbons;
 mod small_panes;
 mod table_a2;
+mod tried;
+mod tried_clauses;
+mod tried_lines;
+mod tried_loads;
+mod tried_placings;
+mod tried_refusals;
+mod tried_requests;
+mod tried_table;
 mod wrong_calls;
 mod wrong_orders;
 mod wrong_placings;

@@ -9,7 +9,8 @@ pub record Lent : Type 0 where
 abbrev pub lent : List ℕ → List ℕ → Lent
 lent before after = record { before = before; after = after }
 
--- The first entries were written and the later ones kept. Of no entries, the list is as it was. A lent list keeps its length.
+-- The first entries were written and the later ones kept. Of no entries, the list is as it was. Where it had room for them, it keeps its
+-- length.
 pub record Wrote (first : List ℕ) (l : Lent) : Type 0 where
   pub front : take (length first) l.after ≡ first
   pub later_kept : drop (length first) l.after ≡ drop (length first) l.before

@@ -11,6 +11,7 @@ use Rattle.bench_examples.specs.Files.{job_h, job_j}
 use Rattle.bench_examples.proofs.Files.{glasses_j, panes_j, three_times, ribbon, nothing_wanted, thirteen_bytes, job_read}
 use Rattle.causes.specs.Answer.{gives}
 use Rattle.span_table.specs.Spans.{spans}
+use Rattle.point_load.specs.Support.{column_of}
 use Rattle.row_placing.specs.Schedule.{Schedule}
 use Rattle.row_placing.specs.Glazing.{Glazing}
 use Rattle.placing.specs.FileSchedule.{schedule_of}
@@ -33,17 +34,18 @@ glazing_h ids group placed g =
     (all, g.if_equal all)
 
 -- The result of a call, by what its placing is.
-result_is :
-    (s : Schedule) (c : Call) (k : PlacedCall s c) (wanted placed : ℕ) →
-    length s.pane_ids ≡ wanted → k.counts.placed ≡ placed → k.glazed.group_ids ≡ [] → c.result ≡ gives (counts wanted placed 0)
-result_is s c k wanted placed w p g =
+pub result_is :
+    (s : Schedule) (c : Call) (k : PlacedCall s c) (wanted placed : ℕ) (group : List ℕ) →
+    length s.pane_ids ≡ wanted → k.counts.placed ≡ placed → k.glazed.group_ids ≡ group →
+    c.result ≡ gives (counts wanted placed (length group))
+result_is s c k wanted placed group w p g =
     k.result_is ∙ rw (k.glazed.wanted_is, k.glazed.group_is, w, p, g)
 
 example_h : (c : Call) → PlacedCall (schedule_of [] [] []) c → c.result ≡ gives (counts 0 0 0)
 example_h c k =
     let g = k.glazed in
     let is = glazing_h g.ids g.group_ids k.counts.placed g.glazing in
-    result_is (schedule_of [] [] []) c k 0 0 refl is.0 is.1
+    result_is (schedule_of [] [] []) c k 0 0 [] refl is.0 is.1
 
 pub glazing_j :
     (ids group : List ℕ) (placed : ℕ) → Glazing schedule_j ids group placed →
@@ -57,13 +59,13 @@ example_j c k =
     let g = k.glazed in
     let is = glazing_j g.ids g.group_ids k.counts.placed g.glazing in
     record {
-      counted = result_is schedule_j c k 2 2 refl is.0 is.2;
+      counted = result_is schedule_j c k 2 2 [] refl is.0 is.2;
       answers =
           subst (λ (ids : List ℕ). take (length ids) c.answer_list.after ≡ ids) is.1 g.answers_written.front;
     }
 
 pub examples : Examples
-unfolding spans
+unfolding spans column_of
 examples = record {
   a = record { at_29 = refl; at_30 = refl; awning = refl };
   b = record { at_2999 = refl; at_3000 = refl };

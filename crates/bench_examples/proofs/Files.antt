@@ -10,7 +10,7 @@ use lib.ListN.{length}
 use Rattle.causes.specs.declared.Cause.TheVariants.{FileLength}
 use Rattle.job_glass.specs.declared.Glass.{Glass}
 use Rattle.job_pane.specs.declared.Pane.{Pane}
-use Rattle.job_pane.specs.declared.Wind.TheVariants.{ByPressure}
+use Rattle.job_pane.specs.declared.Wind.TheVariants.{ByPressure, ByClass}
 use Rattle.job_line.specs.Number.{digits, number}
 use Rattle.job_line.specs.Line.{numbers, ended, line}
 use Rattle.ids.specs.Ids.{among}
@@ -19,9 +19,10 @@ use Rattle.causes.specs.Answer.{gives}
 use Rattle.job_file.specs.File.{trailer, Outcome, accepted, refused, parts_outcome, outcome_of}
 use Rattle.job_file.specs.CheckAnswer.{file_counts, check_answer}
 use Rattle.bench_examples.specs.Files.{pane3000, pane3001, pane_c, glass8, glass10, job_h, job_j}
+use Rattle.bench_examples.specs.Calls.{job_no_glass}
 
 -- To compute an outcome, every definition of the reading is opened.
-outcome : List ℕ → Outcome
+unfoldable pub outcome : List ℕ → Outcome
 unfolding digits number numbers ended line among judged_entry judged lines part_lines trailer parts_outcome outcome_of
 outcome file = outcome_of file
 
@@ -63,3 +64,14 @@ job_read = refl
 
 pub job_answer : check_answer (outcome_of job_j) ≡ gives (file_counts 2 2)
 job_answer = ap check_answer job_read
+
+-- Two panes and no glass.
+abbrev pub panes_none : List Pane
+panes_none =
+    record { id = 2; edges = 4; angle = 30; awning = 0; top = 3000; w = 900; h = 1500; wind = ByPressure 60 95 }
+    ∷ record { id = 1; edges = 4; angle = 30; awning = 0; top = 3000; w = 500; h = 5000; wind = ByClass 10 2 }
+    ∷ []
+
+pub panes_read : outcome_of job_no_glass ≡ accepted [] panes_none
+unfolding outcome
+panes_read = refl

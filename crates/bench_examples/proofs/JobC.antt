@@ -13,6 +13,7 @@ use Rattle.basics.proofs.Tests.{clash}
 use Rattle.job_glass.specs.declared.Glass.{Glass}
 use Rattle.job_file.specs.Entries.{glass_at, stocks_of}
 use Rattle.span_table.specs.Spans.{spans}
+use Rattle.point_load.specs.Support.{column_of}
 use Rattle.clauses.specs.Verdict.{verdict_of}
 use Rattle.clauses.specs.declared.judging.Verdict.TheVariants.{Passes, Fails}
 use Rattle.row_placing.specs.Schedule.{Schedule}
@@ -28,11 +29,11 @@ abbrev pub schedule_c : Schedule
 schedule_c = schedule_of glasses_c (stocks_of glasses_c) (pane_c 3001 ∷ [])
 
 pub glass_8_fails : verdict_of (pane_c 3001) glass8 ≡ Fails 3
-unfolding verdict_of spans
+unfolding verdict_of spans column_of
 glass_8_fails = refl
 
 pub glass_10_passes : verdict_of (pane_c 3001) glass10 ≡ Passes
-unfolding verdict_of spans
+unfolding verdict_of spans column_of
 glass_10_passes = refl
 
 abbrev answer : List ℕ

@@ -14,6 +14,7 @@ use Rattle.std.specs.Prelude.{if◌then◌else◌}
 use Rattle.basics.proofs.Tests.{clash}
 use Rattle.bench_examples.proofs.Files.{glasses_j, panes_j}
 use Rattle.span_table.specs.Spans.{spans}
+use Rattle.point_load.specs.Support.{column_of}
 use Rattle.clauses.specs.Verdict.{verdict_of}
 use Rattle.job_file.specs.Entries.{glass_at, pane_at, stocks_of}
 use Rattle.row_placing.specs.Schedule.{Schedule}
@@ -26,15 +27,15 @@ schedule_j = schedule_of glasses_j (stocks_of glasses_j) panes_j
 
 -- The verdicts that matter, computed: glass 7 is at place 1, glass 9 at place 0.
 pane_1_glass_7 : passes_for (pane_at panes_j 0) (glass_at glasses_j 1) ≡ true
-unfolding verdict_of spans
+unfolding verdict_of spans column_of
 pane_1_glass_7 = refl
 
 pane_2_glass_9 : passes_for (pane_at panes_j 1) (glass_at glasses_j 0) ≡ true
-unfolding verdict_of spans
+unfolding verdict_of spans column_of
 pane_2_glass_9 = refl
 
 pane_2_glass_7 : passes_for (pane_at panes_j 1) (glass_at glasses_j 1) ≡ false
-unfolding verdict_of spans
+unfolding verdict_of spans column_of
 pane_2_glass_7 = refl
 
 abbrev answers : List ℕ

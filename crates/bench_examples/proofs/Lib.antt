@@ -7,6 +7,11 @@ pub mod JobC
 pub mod Examples
 -- What `canopy` prints of them.
 pub mod Texts
+-- What calls leave that the examples don't show, and for it two panes without a glass.
+pub mod NoGlass
+pub mod Calls
+-- Figures and cases that tell a rule from another.
+pub mod Cases
 -- The rows of wind classes and of dead loads that document 02 states.
 pub mod WindRows
 pub mod TemperedRow

@@ -33,7 +33,7 @@ text_h : (text : List ℕ) → TextOfPlacing [] [] text → text ≡ bytes_of "0
 unfolding placing_text pane_lines written_number written_numbers written_digits digit_count
 text_h text t = t.is_text ∙ rw (glazing_h t.answers t.group t.placed t.glazing).0
 
-text_j : (text : List ℕ) → TextOfPlacing glasses_j panes_j text → text ≡ bytes_of "1 7\n" ++ bytes_of "2 9\n" ++ bytes_of "2 2\n"
+pub text_j : (text : List ℕ) → TextOfPlacing glasses_j panes_j text → text ≡ bytes_of "1 7\n" ++ bytes_of "2 9\n" ++ bytes_of "2 2\n"
 unfolding placing_text pane_lines written_number written_numbers written_digits digit_count
 text_j text t = let is = glazing_j t.answers t.group t.placed t.glazing in t.is_text ∙ rw (is.0, is.1)
 

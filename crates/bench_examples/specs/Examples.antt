@@ -1,5 +1,5 @@
--- Document 01, "Bench examples", (a) to (j), with (c) as document 02, 2026-01, has it, and (f) of kind 1, by 2026-06. (h) and (j) are of
--- every call of `place` that keeps its promise.
+-- Documents 01 and 02, "Bench examples": (a) to (j), of which (f) is of kind 1. (h) and (j) are of every call of `place` that keeps its
+-- promise.
 use Rattle.std.specs.Prelude.{ℕ, ◌≤◌, ◌≡◌, true, false, List, [], ◌∷◌, length, take}
 use Rattle.causes.specs.Answer.{gives}
 use Rattle.causes.specs.declared.Cause.TheVariants.{FileLength}

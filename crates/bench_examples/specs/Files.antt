@@ -1,4 +1,4 @@
--- Document 01, "Bench examples", with (c) as document 02, 2026-01, has it: the files of those that speak of a file.
+-- Documents 01 and 02, "Bench examples": the files of those that speak of a file.
 use Rattle.std.specs.Prelude.{ℕ, List, ◌++◌}
 use Rattle.job_line.specs.Bytes.{bytes_of}
 use Rattle.job_glass.specs.declared.Glass.{Glass}
@@ -27,11 +27,11 @@ glass8 = record { id = 8; kind = 2; thick = 8; w = 2400; h = 3600; two = 1; four
 abbrev pub glass10 : Glass
 glass10 = record { id = 10; kind = 2; thick = 10; w = 2400; h = 3600; two = 1; four = 20000; stock = 1 }
 
--- (h)
+-- (h) A trailer alone.
 abbrev pub job_h : List ℕ
 job_h = bytes_of "T 00000 00000\n"
 
--- (j)
+-- (j) The job of "The program `canopy`".
 abbrev pub job_j : List ℕ
 job_j =
     bytes_of "G 9 1 12 2400 3600 21304 23857 1\n"

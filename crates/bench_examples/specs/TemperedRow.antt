@@ -1,9 +1,10 @@
--- Document 02, 2026-06: the row that it states, the maximum dead load at 0 degrees of 12 mm glass, in units of 0.01 kPa.
+-- The row of dead loads that document 02 states: the maximum at 0 degrees of 12 mm glass, by kind, in units of 0.01 kPa.
 use Rattle.std.specs.Prelude.{ℕ, ◌≡◌}
 use Rattle.dead_loads.specs.DeadLoads.{maximum_at}
 use Rattle.uniform_load.specs.GlassLoads.{max_dead_load}
 use Rattle.bench_examples.specs.Examples.{some_glass}
 
+-- The maximum of a kind in that thickness, laid flat.
 abbrev pub flat_12 : (kind : ℕ) → ℕ
 flat_12 kind = max_dead_load (maximum_at 0) (some_glass kind 12 1200 1200)
 

@@ -1,4 +1,4 @@
--- Document 02, 2026-03: the two rows that it states, in units of 0.01 kPa.
+-- The two rows of wind pressures that document 02 states, in units of 0.01 kPa.
 use Rattle.std.specs.Prelude.{◌≡◌}
 use Rattle.job_pane.specs.declared.Wind.TheVariants.{ByClass}
 use Rattle.uniform_load.specs.Wind.{pressures_of}

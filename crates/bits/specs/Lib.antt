@@ -1,1 +1,2 @@
+-- Bits of words; all of it serves code and proofs.
 pub mod Internal

@@ -1,14 +1,20 @@
 -- Results as structs of numbers, by the definitions that the promises of the calls use. What a case does not use is 0. The number of
 -- a refusal is never 0, so number 0 says that a call is not refused: `NumberTells`.
-use Rattle.std.specs.Prelude.{ℕ, ◌≡◌, ◌↔◌, List}
+use Rattle.std.specs.Prelude.{ℕ, ◌≤◌, ◌≡◌, ◌↔◌, List, length, take}
 use Rattle.causes.specs.Answer.{Answer, gives, refuses}
-use Rattle.job_file.specs.File.{Outcome}
+use Rattle.job_glass.specs.declared.Glass.{Glass}
+use Rattle.job_pane.specs.declared.Pane.{Pane}
+use Rattle.job_file.specs.File.{Outcome, accepted}
 use Rattle.job_file.specs.CheckAnswer.{check_answer}
 use Rattle.job_file.specs.declared.FileCounts.{FileCounts}
 use Rattle.clauses.specs.declared.judging.Verdict.{Verdict}
 use Rattle.clauses.specs.declared.judging.Verdict.TheVariants.{Passes, Fails}
 use Rattle.clauses.specs.VerdictAnswer.{verdict_answer}
 use Rattle.row_placing.specs.declared.PlaceCounts.{PlaceCounts}
+use Rattle.row_placing.specs.Schedule.{Schedule}
+use Rattle.row_placing.specs.Placing.{nonzero, Placing}
+use Rattle.row_placing.specs.ShortGroup.{ShortGroup}
+use Rattle.placing.specs.FileSchedule.{file_schedule}
 use Rattle.placing.specs.Promise.{Call, call, Promised}
 use Rattle.bordavina.specs.declared.results.CheckResult.{CheckResult}
 use Rattle.bordavina.specs.declared.results.VerdictResult.{VerdictResult}
@@ -58,3 +64,20 @@ pub record NumberTells (o : Outcome) : Type 0 where
       (pane_id glass_id : ℕ) →
       (verdict_result (verdict_answer o pane_id glass_id)).number ≡ 0 ↔ NotRefused (verdict_answer o pane_id glass_id)
   pub place : (c : Call) → Promised o c → (place_result c.result).number ≡ 0 ↔ NotRefused c.result
+
+-- What a struct and the two lists of a placing tell: the first `wanted` entries of the answers are a placing, of which `placed` are not 0,
+-- and the first `group` entries of the other list are a short group, or none where all are placed.
+pub record PlacedTells (s : Schedule) (r : PlaceResult) (answers group : List ℕ) : Type 0 where
+  pub wanted : r.wanted ≡ length s.pane_ids
+  pub placed : r.placed ≡ nonzero (take r.wanted answers)
+  pub placing : Placing s (take r.wanted answers)
+  pub if_equal : r.placed ≡ r.wanted → r.group ≡ 0
+  pub if_less : (r.placed ≡ r.wanted → ⊥) → ShortGroup s (take r.group group)
+
+-- They tell it of every accepted file, where neither list is too short.
+abbrev pub PlacedTold : Type 0
+PlacedTold =
+    (o : Outcome) (glasses : List Glass) (panes : List Pane) (r : PlaceResult) (answers answers_after group group_after : List ℕ) →
+    o ≡ accepted glasses panes → length panes ≤ length answers → length panes ≤ length group →
+    PlacedAs o r answers answers_after group group_after →
+    PlacedTells (file_schedule glasses panes) r answers_after group_after

@@ -1,11 +1,11 @@
--- Document 01, "What each cause gives": what a call answers. Every call answers in this form.
+-- Documents 01 and 02, "What each cause gives": what `check`, `verdict` and `place` answer.
 use Rattle.std.specs.Prelude.{ℕ, Result, Ok, Err}
 use Rattle.causes.specs.Cause.{number_of}
 use Rattle.causes.specs.declared.Cause.{Cause}
 use Rattle.causes.specs.declared.Refusal.{Refusal}
 
--- What the call gives where it isn't refused, an `A`; or the number of the cause and the offset. (What a file says is
--- `refused`.)
+-- A call gives an `A`, or it refuses with a cause's number and an offset. (A file's `Outcome` has a case of its own, `refused`, with the
+-- cause itself.)
 pub data Answer (A : Type 0) : Type 0 where
   gives : A → Answer A
   refuses : (number offset : ℕ) → Answer A

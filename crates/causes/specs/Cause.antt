@@ -1,5 +1,5 @@
--- Document 01, "What each cause gives": the table's column "Number". Definitions name a cause; its number stands here alone. There is
--- no number 7: document 02, 2026-01.
+-- Documents 01 and 02, "What each cause gives": the table's column "Number". Definitions name a cause; its number stands here alone.
+-- There is no number 7.
 use Rattle.std.specs.Prelude.{ℕ}
 use Rattle.causes.specs.declared.Cause.{Cause}
 use Rattle.causes.specs.declared.Cause.TheVariants.{FileLength, NoTrailer, PartOffsets, LineForm, NumberValue, RepeatedId, TooManyLines, ListTooShort, NoPane, NoGlass}

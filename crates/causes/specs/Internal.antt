@@ -1,2 +1,4 @@
--- What holds of every number.
+-- What holds of the number of every cause.
 pub mod Numbered
+-- What each cause says to people.
+pub mod Words

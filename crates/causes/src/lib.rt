@@ -1,12 +1,12 @@
-// Why a call or a file is refused: document 01, "What each cause gives", less number 7, which document 02, 2026-01, takes away. The
-// numbers of refusals stand here and nowhere else in the code.
+// Why a call or a file is refused: documents 01 and 02, "What each cause gives". The numbers of refusals stand here and nowhere else in
+// the code; 7 is none.
 #![tactic(auto)]
 
 ghost use Rattle.std.specs.Prelude.{◌≡◌};
 
 use std::fmt;
 
-// A cause of document 01's table, in its order. Requests add theirs at the end, with the numbers 12 to 19; none takes 7 again.
+// A cause of the documents' table, in its order.
 #[derive(Clone, Copy, Debug, PartialEq, Eq)]
 pub enum Cause {
     // of the file
@@ -64,10 +64,10 @@ impl From<Cause> for u32 {
     }
 }
 
-// A cause in plain words, and what to do about it.
+// A cause in plain words, and of some what to do about it.
 impl fmt::Display for Cause {
     ghost use Rattle.std.specs.Prelude.{Some};
-    ghost use Rattle.causes.specs.Words.{words_of};
+    ghost use Rattle.causes.specs.Internal.Words.{words_of};
 
     ghost output = { λ cause. Some (words_of cause) };
 
@@ -80,13 +80,13 @@ impl fmt::Display for Cause {
             Cause::PartOffsets =>
                 "the last line's numbers, where the glass part and the pane part begin, are out of order or too large",
             Cause::LineForm =>
-                "the line is not G and 8 numbers, or P or Q and 9, with one space before each, no zeros in front and a newline",
+                "the line is not G and 8 numbers, or P or Q and 9, one space and one to five digits each, no zeros in front, and a newline",
             Cause::NumberValue =>
                 "a number is not among its allowed values; compare the line with the description of the job file",
             Cause::RepeatedId =>
                 "the id is already on an earlier line of this part; give the line an id of its own",
             Cause::TooManyLines =>
-                "the part has more than 64 glass lines or 256 pane lines; divide the job into several files",
+                "the part has more than 64 glass lines or 256 pane lines; divide the job among several files, and each stock with it",
             Cause::ListTooShort =>
                 "a list that was lent has fewer entries than the file has panes; lend one with an entry for each pane",
             Cause::NoPane => "no pane of the file has that id",

@@ -588,6 +588,80 @@ def notes():
     refused("pane-value-behind-no-notes", 5, glass(), job(glass(), pane(0), b""))
 
 
+# From here on, several requests of document 02 meet: ribbons of a wind class.
+
+
+def house_ribbon(id=600, edges=4, angle=30, awning=0, top=3000, w=5000, h=1, wind=10, zone=2):
+    """A ribbon by its class, the longest and narrowest unless other sides are given."""
+    return house(id, edges, angle, awning, top, w, h, wind, zone)
+
+
+def house_ribbons():
+    """Ribbons with the largest and the smallest numbers that a line may have, of each class and zone, and beside others."""
+    good("house", "house-ribbon-w-longest", house_ribbon(9999, 4, 74, 1, 99999, 5000, 1, 10, 2))
+    good("house", "house-ribbon-h-longest", house_ribbon(9999, 4, 74, 1, 99999, 1, 5000, 10, 2))
+    good("house", "house-ribbon-w-shortest", house_ribbon(1, 4, 0, 0, 0, 4, 1, 1, 1))
+    good("house", "house-ribbon-h-shortest", house_ribbon(1, 4, 0, 0, 0, 1, 4, 1, 1))
+    extremes = itertools.product((0, 74), (0, 1), (0, 99999), ((5000, 1), (1, 5000), (4, 1), (1, 4)), (1, 10), (1, 2))
+    lines = b"".join(
+        house(id, 4, angle, awning, top, w, h, wind, zone)
+        for id, (angle, awning, top, (w, h), wind, zone) in enumerate(extremes, 1))
+    accepted("house-ribbons-of-every-extreme", 1, 128, job(glass(), lines))
+    classes = enumerate(itertools.product(range(1, 11), (1, 2)), 1)
+    lines = b"".join(house_ribbon(id, wind=wind, zone=zone) + ribbon(100 + id) for id, (wind, zone) in classes)
+    accepted("house-ribbons-beside-ribbons", 1, 40, job(glass(), lines))
+
+
+def house_ribbon_counts():
+    """As many of them as there may be, and one more."""
+    lines = many(house_ribbon, 256)
+    accepted("most-panes-all-house-ribbons", 1, 256, job(glass(), lines))
+    for name, line in (
+        ("", house_ribbon(257)), ("-faulty", house_ribbon(257, zone=3)), ("-lower-case", house_ribbon(257).lower()),
+        ("-of-a-known-id", house_ribbon(2)),
+    ):
+        refused(f"pane-line-257-a-house-ribbon{name}", 8, NOTES + lines, job(b"", lines + line))
+    bad("house", "pane-line-256-a-house-ribbon-faulty", 5, house_ribbon(9998, wind=11), many(house_ribbon, 255))
+    bad("house", "pane-line-256-a-house-ribbon-of-a-known-id", 6, house_ribbon(2), many(house_ribbon, 255))
+
+
+# values that a line may not have, and sides of the ribbon that has them
+RIBBON_FAULTS = [
+    ("id", 0, (5000, 1)), ("id", 10000, (1, 5000)), ("edges", 3, (5000, 1)), ("angle", 75, (1, 5000)), ("awning", 2, (5000, 1)),
+    ("w", 0, (1, 5000)), ("w", 5001, (5000, 1)), ("h", 0, (5000, 1)), ("h", 5001, (1, 5000)), ("wind", 0, (5000, 1)),
+    ("wind", 11, (1, 5000)), ("zone", 0, (1, 5000)), ("zone", 3, (5000, 1)),
+]
+
+
+def house_ribbon_faults():
+    """A value that is not allowed, on the line of a ribbon."""
+    for number, value, (w, h) in RIBBON_FAULTS:
+        numbers = {"w": w, "h": h, number: value}
+        bad("house", f"house-ribbon-{number}-{spelled(value)}", 5, house_ribbon(**numbers))
+
+
+def house_ribbon_orders():
+    """The first cause of such a line, and the first line with one."""
+    bad("house", "house-ribbon-form-and-value", 4, house_ribbon(wind=11, zone="01"))
+    bad("house", "house-ribbon-form-and-id-repeated", 4, house_ribbon(701)[:-1] + b" \n")
+    bad("house", "house-ribbon-value-and-newline-missing", 4, house_ribbon(zone=3)[:-1])
+    bad("house", "house-ribbon-lower-case-and-value", 4, house_ribbon(angle=75).lower())
+    bad("house", "house-ribbon-wind-and-id-repeated", 5, house_ribbon(701, w=1, h=5000, wind=0))
+    bad("house", "house-ribbon-h-and-id-repeated", 5, house_ribbon(702, h=0))
+    bad("house", "house-ribbon-pressures-and-id-of-a-ribbon", 5, house_ribbon(9, wind=60, zone=95), ribbon(8) + ribbon(9))
+    bad("house", "house-ribbon-id-of-a-ribbon", 6, house_ribbon(9, w=9, h=36), ribbon(8) + ribbon(9))
+    bad("pane", "ribbon-id-of-a-house-ribbon", 6, ribbon(9), house_ribbon(8) + house_ribbon(9))
+    bad("house", "house-ribbon-but-for-the-letter-a-ribbon", 6, house_ribbon(), pane(w=5000, h=1, down=10, up=2) + pane(701))
+    behind_ribbons = pane(701, w=1, h=5000) + house_ribbon(702) + house_ribbon()
+    bad("house", "house-ribbon-on-one-line-form-on-next", 4, b"Q\n", behind_ribbons)
+    bad("house", "house-ribbon-on-one-line-zone-on-next", 5, house_ribbon(601, zone=3), behind_ribbons)
+    bad("pane", "house-ribbon-on-one-line-value-on-next", 5, pane(601, angle=80), behind_ribbons)
+    bad("house", "house-ribbon-twice", 6, house_ribbon(), behind_ribbons)
+    bad("house", "house-ribbon-zone-on-one-line-form-on-next", 5, house_ribbon(zone=3) + b"Q\n")
+    bad("house", "house-ribbon-form-on-one-line-zone-on-next", 4, house_ribbon(zone="3 ") + house_ribbon(zone=3))
+    bad("house", "house-ribbon-id-repeated-on-one-line-wind-on-next", 6, house_ribbon(702) + house_ribbon(wind=11))
+
+
 # what is not a file, and its answer
 NO_FILES = [("no-such-file.job", "not opened"), ("", "not opened"), (".", "not read")]
 
@@ -606,7 +680,7 @@ def write():
 
 for group in (
     paper_jobs, sizes, limits, forms, letters, winds, mixes, house_faults, missing_newlines, offsets, trailers, sides, ids,
-    counts, house_counts, order, notes,
+    counts, house_counts, order, notes, house_ribbons, house_ribbon_counts, house_ribbon_faults, house_ribbon_orders,
 ):
     group()
 write()

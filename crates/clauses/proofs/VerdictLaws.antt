@@ -10,7 +10,7 @@ use borrow.Author.Tests.{ltb-false, le-ltb}
 use Rattle.std.specs.Prelude.{if◌then◌else◌}
 use Rattle.job_glass.specs.declared.Glass.{Glass}
 use Rattle.job_pane.specs.declared.Pane.{Pane}
-use Rattle.job_pane.specs.Sides.{in_proportion}
+use Rattle.job_pane.specs.Ribbon.{is_ribbon}
 use Rattle.cut_size.specs.Size.{size_fails}
 use Rattle.point_load.specs.PointLoad.{point_load_fails}
 use Rattle.point_load.specs.RibbonLaws.{column_before}
@@ -86,7 +86,7 @@ module _ (p : Pane) (g : Glass) where
   unfolding verdict_of
   stock s = refl
 
-  no_ribbon : in_proportion p ≡ true → verdict_of p g ≡ verdict_in (column_before p) p g
+  no_ribbon : is_ribbon p ≡ false → verdict_of p g ≡ verdict_in (column_before p) p g
   unfolding verdict_of
   no_ribbon e = ap (λ column. verdict_in column p g) ((ribbon_laws p).column_kept e)
 

@@ -1,2 +1,2 @@
--- What the code finds of two ids.
+-- What the code finds of two ids, and what is answered by it.
 pub mod Found

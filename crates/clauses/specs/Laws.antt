@@ -2,11 +2,11 @@
 use Rattle.std.specs.Prelude.{ℕ, ◌≤◌, ◌<◌, ◌≡◌, Bool, true, false, ltb, eqb, if◌then◌else◌}
 use Rattle.job_glass.specs.declared.Glass.{Glass}
 use Rattle.job_pane.specs.declared.Pane.{Pane}
-use Rattle.job_pane.specs.Sides.{in_proportion}
+use Rattle.job_pane.specs.Ribbon.{is_ribbon}
 use Rattle.cut_size.specs.Size.{size_fails}
 use Rattle.span_table.specs.declared.Column.{Column}
 use Rattle.point_load.specs.Support.{span_of}
-use Rattle.point_load.specs.PointLoad.{entry_in, point_load_fails}
+use Rattle.point_load.specs.PointLoad.{span_entry, point_load_fails}
 use Rattle.point_load.specs.RibbonLaws.{column_before}
 use Rattle.uniform_load.specs.UniformLoad.{uniform_load_fails}
 use Rattle.clauses.specs.Kind.{kind_fails}
@@ -57,7 +57,7 @@ with_stock stock g = record {
 -- The verdict, if clause 3 read its entry in this column.
 abbrev pub verdict_in : Column → Pane → Glass → Verdict
 verdict_in column p g =
-    first_failure (kind_fails p g) (size_fails p g) (ltb (entry_in column p g) (span_of p)) (uniform_load_fails p g)
+    first_failure (kind_fails p g) (size_fails p g) (ltb (span_entry column p g) (span_of p)) (uniform_load_fails p g)
 
 pub record VerdictLaws (p : Pane) (g : Glass) : Type 0 where
   -- a verdict that fails names the first clause that does, and one that passes says that none does
@@ -68,5 +68,5 @@ pub record VerdictLaws (p : Pane) (g : Glass) : Type 0 where
       (two four : ℕ) → g.two ≤ two → g.four ≤ four → verdict_of p g ≡ Passes → verdict_of p (with_constants two four g) ≡ Passes
   -- the stock has no say
   pub stock : (stock : ℕ) → verdict_of p (with_stock stock g) ≡ verdict_of p g
-  -- document 02, 2026-01: a pane that is no ribbon has the verdict by document 01's column
-  pub no_ribbon : in_proportion p ≡ true → verdict_of p g ≡ verdict_in (column_before p) p g
+  -- a pane that is no ribbon is judged by the column that it read before document 02, 2026-01
+  pub no_ribbon : is_ribbon p ≡ false → verdict_of p g ≡ verdict_in (column_before p) p g

@@ -1,4 +1,4 @@
--- Document 01, "The four clauses": clause 1 and the verdict; clauses 2, 3 and 4 are in cut_size, point_load and uniform_load.
+-- Documents 01 and 02, "The four clauses": clause 1 and the verdict; clauses 2, 3 and 4 are in cut_size, point_load and uniform_load.
 pub mod Kind
 pub mod Verdict
 -- What the call `verdict` answers.

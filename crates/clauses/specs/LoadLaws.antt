@@ -1,4 +1,5 @@
--- Laws of the verdict by the dead loads of tempered glass, for a pane and a glass of any values: document 02, 2026-06.
+-- Laws of the verdict before document 02, 2026-06, gave tempered glass dead loads of its own, and after it, for a pane and a glass of any
+-- values.
 use Rattle.std.specs.Prelude.{◌≡◌, ◌⊎◌}
 use Rattle.job_glass.specs.declared.Glass.{Glass}
 use Rattle.job_pane.specs.declared.Pane.{Pane}

@@ -1,4 +1,4 @@
--- Document 01, "The four clauses": the verdict of a pane and a glass, by the first of the clauses that fails, if one does.
+-- Documents 01 and 02, "The four clauses": the verdict of a pane and a glass, by the first of the clauses that fails, if one does.
 use Rattle.std.specs.Prelude.{Bool, if◌then◌else◌}
 use Rattle.job_glass.specs.declared.Glass.{Glass}
 use Rattle.job_pane.specs.declared.Pane.{Pane}

@@ -1,18 +1,13 @@
--- Document 01, what the call `verdict` answers, "What each cause gives" and "The four clauses": demands 1 and 2. Of every file and any
--- two ids it is the verdict, or the first cause why there is none.
-use Rattle.std.specs.Prelude.{ℕ, Some, None, Result}
+-- What the call `verdict` answers: documents 01 and 02, "What each cause gives" and "The four clauses"; demands 1 and 2. Of every file and
+-- any two ids it is the verdict, or the first cause why there is none.
+use Rattle.std.specs.Prelude.{ℕ, Some, None}
 use Rattle.ids.specs.Lookup.{place_of}
-use Rattle.causes.specs.Answer.{Answer, gives, refusal, answer_of}
+use Rattle.causes.specs.Answer.{Answer, gives, refusal}
 use Rattle.causes.specs.declared.Cause.TheVariants.{NoPane, NoGlass}
-use Rattle.causes.specs.declared.Refusal.{Refusal}
 use Rattle.job_file.specs.File.{Outcome, accepted, refused}
 use Rattle.job_file.specs.Entries.{glass_at, pane_at, glass_ids_of, pane_ids_of}
 use Rattle.clauses.specs.Verdict.{verdict_of}
 use Rattle.clauses.specs.declared.judging.Verdict.{Verdict}
-
--- What the code's answer says.
-abbrev pub ruling_says : Result Verdict Refusal → Answer Verdict
-ruling_says = answer_of
 
 -- The answer that a question about the pane and the glass of two ids should have: the file's own refusal comes first, then that of
 -- an unknown pane, then that of an unknown glass.

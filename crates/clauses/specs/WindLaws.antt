@@ -1,4 +1,4 @@
--- Laws of the verdict by a pane's wind, for a pane and a glass of any values: document 02, 2026-03.
+-- Laws of the verdict by a pane's wind, for a pane and a glass of any values.
 use Rattle.std.specs.Prelude.{ℕ, ◌≡◌}
 use Rattle.job_glass.specs.declared.Glass.{Glass}
 use Rattle.job_pane.specs.OtherWind.{with_wind}

@@ -10,7 +10,8 @@ mod question;
 
 ghost use Rattle.std.specs.Prelude.{◌≡◌};
 ghost use Rattle.job_file.specs.File.{outcome_of};
-ghost use Rattle.clauses.specs.VerdictAnswer.{ruling_says, verdict_answer};
+ghost use Rattle.causes.specs.Answer.{answer_of};
+ghost use Rattle.clauses.specs.VerdictAnswer.{verdict_answer};
 
 use causes::Refusal;
 use job_file::read_job;
@@ -21,7 +22,7 @@ use question::judge_found;
 // Whether the glass of that id may be used for the pane of that id; or why there is no verdict.
 #[tactic(auto, unfolding(crate::specs::VerdictAnswer::verdict_answer))]
 pub fn verdict(file: &[u8], pane: u32, glass: u32) -> Result<Verdict, Refusal>
-    ensures { ruling_says result ≡ verdict_answer (outcome_of file.now) pane glass }
+    ensures { answer_of result ≡ verdict_answer (outcome_of file.now) pane glass }
 {
     let job = read_job(file)?;
     judge_found(

@@ -1,6 +1,6 @@
 // The answer to a question by the pane and the glass that are found: specs/Internal/Found.antt.
 ghost use Rattle.std.specs.Prelude.{◌≡◌};
-ghost use Rattle.clauses.specs.VerdictAnswer.{ruling_says};
+ghost use Rattle.causes.specs.Answer.{answer_of};
 ghost use Rattle.clauses.specs.Internal.Found.{found_answer};
 
 use crate::judging::{Verdict, judge};
@@ -10,7 +10,7 @@ use job_pane::Pane;
 
 // The verdict of what was found. An unknown pane comes before an unknown glass, and no offset of the file is to blame for either.
 pub fn judge_found(pane: Option<Pane>, glass: Option<Glass>) -> Result<Verdict, Refusal>
-    ensures { ruling_says result ≡ found_answer pane glass }
+    ensures { answer_of result ≡ found_answer pane glass }
 {
     let pane = pane.ok_or(Cause::NoPane.at(0))?;
     let glass = glass.ok_or(Cause::NoGlass.at(0))?;

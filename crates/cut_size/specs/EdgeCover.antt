@@ -1,4 +1,4 @@
--- Document 02, 2026-02: how far the rebate must cover a sheet along each edge, at least.
+-- Documents 01 and 02, "The four clauses", clause 2: how far the rebate must cover a sheet along each edge, at least.
 use Rattle.std.specs.Prelude.{ℕ, eqb, if◌then◌else◌}
 
 -- NZS 4223.1:2008, Table 5, column "Edge cover", in mm: the rows of nominal thickness 6, 8, 10 and 12. Any other

@@ -1,4 +1,4 @@
--- Clause 2 by sight size, and what follows from the cut size for it: document 02, 2026-02.
+-- Clause 2 by sight size, as before document 02, 2026-02, and what follows from the cut size for it.
 use Rattle.std.specs.Prelude.{◌≡◌, Bool, not, false}
 use Rattle.job_glass.specs.declared.Glass.{Glass}
 use Rattle.job_pane.specs.declared.Pane.{Pane}

@@ -1,4 +1,4 @@
--- Document 01, "The four clauses", clause 2, size, with the cut size of document 02, 2026-02.
+-- Documents 01 and 02, "The four clauses", clause 2, size: a sheet has to hold the cut size of the pane.
 use Rattle.std.specs.Prelude.{ℕ, ◌+◌, ◌*◌, Bool, not, ◌&&◌, ◌||◌, leb}
 use Rattle.job_glass.specs.declared.Glass.{Glass}
 use Rattle.job_pane.specs.declared.Pane.{Pane}

@@ -1,4 +1,4 @@
-// Clause 2, the size: document 01, "The four clauses"; document 02, 2026-02.
+// Clause 2, the size: documents 01 and 02, "The four clauses".
 #![tactic(auto)]
 
 mod covers;

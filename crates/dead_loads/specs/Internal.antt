@@ -1,2 +1,2 @@
--- What the code promises.
+-- What the code reads of the table at an angle.
 pub mod Steps

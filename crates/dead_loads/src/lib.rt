@@ -4,8 +4,8 @@
 ghost use Rattle.std.specs.Prelude.{◌≡◌};
 ghost use Rattle.dead_loads.specs.Internal.Steps.{dead_load_at};
 
-// The dead load of 6 mm glass, in units of 0.01 kPa, its maximum of annealed glass. It is of 16 bits, so that it may be multiplied by any
-// thickness.
+// The dead load of 6 mm glass, in units of 0.01 kPa; the maximum is that of annealed glass. It is of 16 bits, so that it may be multiplied
+// by any thickness.
 #[derive(Clone, Copy)]
 pub struct DeadLoad {
     pub maximum: u16,

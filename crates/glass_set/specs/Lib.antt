@@ -1,1 +1,2 @@
+-- Sets of glasses; all of it serves code and proofs.
 pub mod Internal

@@ -4,7 +4,7 @@
 --     schedule_same    the schedule
 --     same_roof        as specs/SameRoof.antt states it
 use Prim.Native.Nat.{ℕ}
-use mathlib.Core.Path.{◌≡◌, ap, subst, subst⁻¹, ◌∙◌}
+use mathlib.Core.Path.{◌≡◌, ap, subst⁻¹, ◌∙◌}
 use mathlib.Core.List.{List, [], ◌∷◌, map, map-map}
 use lib.ListN.{length-map, get_or-map}
 use Rattle.ids.specs.Ids.{Distinct}
@@ -16,12 +16,8 @@ use Rattle.job_file.specs.Entries.{glass_at, pane_at, glass_ids_of, pane_ids_of}
 use Rattle.uniform_load.specs.AsPressures.{as_pressures}
 use Rattle.clauses.specs.Verdict.{verdict_of}
 use Rattle.clauses.proofs.Laws.{wind_laws, as_pressures_laws}
-use Rattle.row_placing.specs.Schedule.{Schedule}
-use Rattle.row_placing.specs.Placing.{Placing, FullPlacing}
-use Rattle.row_placing.specs.ShortGroup.{ShortGroup}
 use Rattle.placing.specs.FileSchedule.{is_pass, schedule_of}
-use Rattle.placing.specs.Internal.Steps.{JobRows}
-use Rattle.house_roofs.specs.SameRoof.{SameToPlace, SameRoof}
+use Rattle.house_roofs.specs.SameRoof.{SameRoof}
 
 pub ids_same : (panes : List Pane) → pane_ids_of (map as_pressures panes) ≡ pane_ids_of panes
 ids_same panes = map-map (λ p. p.id) as_pressures panes
@@ -41,19 +37,6 @@ module _ (glasses : List Glass) (panes : List Pane) where
     passes = λ p g. is_pass (verdict_same p g i);
   }
 
--- What is said of a schedule is said of one that equals it.
-same_to_place : (stated pressures : Schedule) → pressures ≡ stated → SameToPlace stated pressures
-same_to_place stated pressures same = record {
-  schedule = same;
-  rows = λ rows. both (λ s. JobRows s rows);
-  placings = λ ids. both (λ s. Placing s ids);
-  full_placings = both FullPlacing;
-  short_groups = λ group. both (λ s. ShortGroup s group);
-}
-  where
-    both : (P : Schedule → Type 0) → (P pressures → P stated) × (P stated → P pressures)
-    both P = (subst P same, subst⁻¹ P same)
-
 every_pressures : (panes : List Pane) → Every allowed_pane panes → Every allowed_pane (map as_pressures panes)
 unfolding Every
 every_pressures [] h = tt
@@ -69,5 +52,5 @@ pane_rules panes r = record {
 pub same_roof : (glasses : List Glass) (panes : List Pane) → SameRoof glasses panes
 same_roof glasses panes = record {
   rules_kept = λ r. record { of_glasses = r.of_glasses; of_panes = pane_rules panes r.of_panes };
-  to_place = λ sheets. same_to_place _ _ (schedule_same glasses panes sheets);
+  to_place = schedule_same glasses panes;
 }

@@ -1,4 +1,4 @@
--- Document 02, 2026-03: an accepted file, and the file that is written for its job with `P` lines alone. Of both `check` and `verdict`
+-- An accepted file, and the file that is written for its job with `P` lines alone. Of both `check` and `verdict`
 -- answer the same, and the same is promised of `place` and `report`, which leave a choice.
 use Rattle.std.specs.Prelude.{ℕ, ◌≤◌, ◌≡◌, ◌↔◌, List, map, length}
 use Rattle.job_glass.specs.declared.Glass.{Glass}
@@ -23,10 +23,11 @@ pub record SameAnswers (stated pressures : Outcome) : Type 0 where
 abbrev pub pressure_file : (notes : List ℕ) → List Glass → List Pane → List ℕ
 pressure_file notes glasses panes = written_file notes glasses (map as_pressures panes)
 
+-- Each line of a pane in it begins with `P`.
 abbrev pub PLines : Type 0
 PLines = (p : Pane) → wind_letter (as_pressures p).wind ≡ letter_p
 
--- It answers as the file does, where the notes leave room for it.
+-- The two files answer alike, where the notes leave room for the second.
 abbrev pub AnswersAlike : Type 0
 AnswersAlike =
     (file notes : List ℕ) (glasses : List Glass) (panes : List Pane) →

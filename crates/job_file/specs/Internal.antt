@@ -1,6 +1,6 @@
 -- A job as a value.
 pub mod Job
--- What makes its rules a fact about its lists alone.
+-- Why jobs with the same lists are the same job.
 pub mod OneProof
 -- What reading the trailer promises.
 pub mod Steps

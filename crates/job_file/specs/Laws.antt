@@ -1,4 +1,4 @@
--- Document 02, 2026-01: what had number 7 is refused no more.
+-- Number 7 does not occur: document 02, 2026-01.
 use Rattle.std.specs.Prelude.{ℕ, ◌≡◌, List}
 use Rattle.causes.specs.Answer.{refuses}
 use Rattle.job_file.specs.File.{outcome_of}

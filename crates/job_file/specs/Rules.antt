@@ -1,4 +1,4 @@
--- The rules of document 01, "The job file", that the lists of an accepted file keep.
+-- The rules that the lists of an accepted file keep: documents 01 and 02, "The job file", and "What each cause gives", rows 5, 6 and 8.
 use Rattle.std.specs.Prelude.{List}
 use Rattle.job_part.specs.Rules.{PartRules}
 use Rattle.job_glass.specs.GlassLine.{glass_form}

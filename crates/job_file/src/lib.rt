@@ -11,7 +11,8 @@ mod trailer;
 
 ghost use Rattle.std.specs.Prelude.{◌≡◌};
 ghost use Rattle.job_file.specs.File.{outcome_of};
-ghost use Rattle.job_file.specs.CheckAnswer.{checked_says, check_answer};
+ghost use Rattle.causes.specs.Answer.{answer_of};
+ghost use Rattle.job_file.specs.CheckAnswer.{check_answer};
 
 use causes::Refusal;
 pub use file::read_job;
@@ -26,7 +27,7 @@ pub struct FileCounts {
 
 // Whether a file is accepted, and how many glasses and panes it has; or why and where it is refused.
 pub fn check(file: &[u8]) -> Result<FileCounts, Refusal>
-    ensures { checked_says result ≡ check_answer (outcome_of file.now) }
+    ensures { answer_of result ≡ check_answer (outcome_of file.now) }
 {
     let job = read_job(file)?;
     Ok(FileCounts {

@@ -1,2 +1,2 @@
--- What the layers above may count on.
+-- The allowed values, as bounds.
 pub mod Values

@@ -1,7 +1,7 @@
 // The line of a glass: specs/GlassLine.antt.
 ghost use Rattle.std.specs.Prelude.{◌≡◌, ◌||◌, eqb};
 ghost use Rattle.job_glass.specs.GlassLine.{allowed_glass, glass_form};
-ghost use Rattle.job_glass.specs.Internal.Values.{allowed_id};
+ghost use Rattle.job_glass.specs.Internal.Values.{allowed_glass_id};
 
 use crate::Glass;
 use job_line::read_line;
@@ -10,7 +10,7 @@ use job_part::{Entry, is_between};
 impl Entry for Glass {
     ghost form = { glass_form };
 
-    ghost id_high = { allowed_id };
+    ghost id_high = { allowed_glass_id };
 
     #[tactic(auto, using(crate::proofs::Lines::by_letter))]
     fn read(bytes: &[u8]) -> Option<(Glass, &[u8])> {

@@ -3,7 +3,7 @@
 
 mod entry;
 
-// A sheet of glass in the rack: a line `G id kind thick w h two four stock`.
+// A glass of the rack, with its stock of sheets: a line `G id kind thick w h two four stock`.
 //
 // Its numbers are plain: any number of a line may stand here until cause 5 has judged it, and public functions answer for any
 // glass. A narrower type would ask more of their callers.

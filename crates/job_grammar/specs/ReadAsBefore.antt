@@ -1,25 +1,24 @@
--- Document 02, 2026-01, took a rule on the sides of panes away. Lists that keep it too are written and read back as they were, and
--- the lists of an accepted file without ribbons keep it.
-use Rattle.std.specs.Prelude.{ℕ, ◌≤◌, ◌≡◌, List, length}
-use Rattle.job_part.specs.Rules.{Every, PartRules}
-use Rattle.job_glass.specs.GlassLine.{glass_form}
-use Rattle.job_glass.specs.declared.Glass.{Glass}
+-- What was accepted before document 02, 2026-01, when ribbons were refused: it is accepted, and reads as the same panes. Of a file only the
+-- pane part was asked for ribbons, so it is stated of that part.
+use Rattle.std.specs.Prelude.{ℕ, ◌≡◌, ◌&&◌, not, List}
+use Rattle.job_part.specs.Part.{Form, whole, part_lines}
+use Rattle.job_part.specs.Rules.{Every}
 use Rattle.job_pane.specs.PaneLine.{pane_form}
-use Rattle.job_pane.specs.Sides.{in_proportion}
+use Rattle.job_pane.specs.Ribbon.{is_ribbon}
 use Rattle.job_pane.specs.declared.Pane.{Pane}
-use Rattle.job_file.specs.File.{accepted, outcome_of}
-use Rattle.job_file.specs.Rules.{Rules}
-use Rattle.job_grammar.specs.Written.{written_file}
 
--- The rules of the two parts, and document 01's on sides.
-pub record RulesBefore (glasses : List Glass) (panes : List Pane) : Type 0 where
-  pub of_glasses : PartRules glass_form glasses
-  pub of_panes : PartRules pane_form panes
-  pub each_in_proportion : Every in_proportion panes
+-- The form of a pane line that takes no ribbon.
+abbrev pub form_before : Form Pane
+form_before = record {
+  takes = pane_form.takes;
+  count = pane_form.count;
+  entry = pane_form.entry;
+  id = pane_form.id;
+  allowed = λ p. pane_form.allowed p && not (is_ribbon p);
+  most = pane_form.most;
+}
 
-pub record ReadAsBefore (glasses : List Glass) (panes : List Pane) : Type 0 where
-  pub rules_kept : RulesBefore glasses panes → Rules glasses panes
-  pub read_back :
-      RulesBefore glasses panes → (notes : List ℕ) → length (written_file notes glasses panes) ≤ 65535 →
-      outcome_of (written_file notes glasses panes) ≡ accepted glasses panes
-  pub no_ribbon : (file : List ℕ) → outcome_of file ≡ accepted glasses panes → Every in_proportion panes → RulesBefore glasses panes
+-- Of the bytes of a part that was whole, with these panes.
+pub record ReadAsBefore (end : ℕ) (bytes : List ℕ) (panes : List Pane) : Type 0 where
+  pub read_as_before : part_lines form_before end bytes ≡ whole panes → part_lines pane_form end bytes ≡ whole panes
+  pub no_ribbon : part_lines form_before end bytes ≡ whole panes → Every (λ p. not (is_ribbon p)) panes

@@ -1,5 +1,5 @@
 -- The grammar of the job file: the bytes that are written for a line, for a glass or a pane, for a part and for a file.
--- Document 01, "The job file", and document 02, 2026-03, from the writer's side.
+-- Documents 01 and 02, "The job file", from the writer's side.
 use Rattle.std.specs.Prelude.{ℕ, ◌+◌, List, [], ◌∷◌, ◌++◌, length}
 use Rattle.job_line.specs.Bytes.{newline, space, letter_g, letter_p, letter_q, letter_t}
 use Rattle.job_line.specs.WrittenNumber.{written_digits, written_numbers}

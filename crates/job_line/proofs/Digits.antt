@@ -5,7 +5,6 @@
 --     digits_none             none left: the value so far
 --     Begun                   what holds in the midst of digits: those from here on, behind the value so far, are what was to
 --                             be read, and k digits make less than 10 ^ k
---     begun_limit             so where one may still come, the value is below 10,000
 --     begun_digit             one digit more
 --     begun_stop, begun_none  no digit next, or none left: the value so far is what was to be read
 use Prim.Native.Nat.{ℕ, zero, suc, ◌+◌, ◌-◌, ◌*◌, ◌^◌, ◌≤◌, ◌<◌}
@@ -62,13 +61,6 @@ unfolding digits
 digits_none zero v bytes h = refl
 digits_none (suc left) v bytes h = absurd (omega arith)
 
-limit : (read v : ℕ) → read < 4 → v < 10 ^ (read + 1) → v < 10000
-limit zero v l s = omega arith
-limit (suc zero) v l s = omega arith
-limit (suc (suc zero)) v l s = omega arith
-limit (suc (suc (suc zero))) v l s = omega arith
-limit (suc (suc (suc (suc read)))) v l s = absurd (omega arith)
-
 tenfold : (read v d : ℕ) → read < 4 → v < 10 ^ (read + 1) → d ≤ 9 → v * 10 + d < 10 ^ (read + 1 + 1)
 tenfold zero v d l s h = omega arith
 tenfold (suc zero) v d l s h = omega arith
@@ -81,9 +73,6 @@ pub record Begun (asked : Found ℕ) (bytes : List ℕ) (value read : ℕ) : Typ
   pub small : value < 10 ^ (read + 1)
 
 module _ (asked : Found ℕ) (bytes : List ℕ) (value read : ℕ) (begun : Begun asked bytes value read) where
-  pub begun_limit : read < 4 → value < 10000
-  begun_limit few = limit read value few begun.small
-
   pub begun_digit :
       (d : ℕ) (rest : List ℕ) → read < 4 → found d rest ≡ digit bytes → d ≤ 9 → Begun asked rest (value * 10 + d) (read + 1)
   begun_digit d rest few one small =

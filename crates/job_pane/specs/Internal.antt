@@ -1,4 +1,4 @@
--- What the layers above may count on.
+-- The allowed values, as bounds.
 pub mod Values
 -- What reading a line of one letter promises.
 pub mod Letters

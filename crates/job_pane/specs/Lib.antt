@@ -1,7 +1,9 @@
--- Document 01, "The job file": the pane line. The wind that it states, also by document 02, 2026-03.
-pub mod PaneLine
+-- Documents 01 and 02, "The job file": the wind that a pane line states, and the line.
 pub mod StatedWind
--- Which sides a pane may have, and had.
+pub mod PaneLine
+-- What a ribbon is.
+pub mod Ribbon
+-- Which sides a pane may have.
 pub mod Sides
 -- A pane with another wind.
 pub mod OtherWind

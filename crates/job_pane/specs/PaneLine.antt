@@ -1,4 +1,4 @@
--- The line of a pane: `P id edges angle awning top w h down up` by document 01, "The job file", and, by document 02, 2026-03,
+-- Documents 01 and 02, "The job file": the line of a pane, `P id edges angle awning top w h down up` or
 -- `Q id edges angle awning top w h class zone`.
 use Rattle.std.specs.Prelude.{ℕ, Bool, ◌&&◌, ◌||◌, List, leb, eqb, get_or}
 use Rattle.job_line.specs.Bytes.{letter_p, letter_q}

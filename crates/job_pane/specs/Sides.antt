@@ -1,13 +1,8 @@
--- The sides of a pane: document 02, 2026-01. Document 01 asked of a pane with four edges that the longer be at most 3 times the shorter;
--- now they have no say but by their own limits.
-use Rattle.std.specs.Prelude.{ℕ, ◌*◌, min, max, Bool, ◌||◌, T, leb, eqb}
+-- A law of the sides of a pane: their own limits are all that is asked of them, whatever their proportion.
+use Rattle.std.specs.Prelude.{ℕ, T}
 use Rattle.job_part.specs.Part.{between}
 use Rattle.job_pane.specs.PaneLine.{allowed_pane}
 use Rattle.job_pane.specs.declared.Pane.{Pane}
-
--- What document 01 asked. Only laws that compare then with now name it: a pane that is not in proportion is a ribbon.
-abbrev pub in_proportion : Pane → Bool
-in_proportion p = eqb p.edges 2 || leb (max p.w p.h) (3 * min p.w p.h)
 
 -- A pane with other sides, and else the same.
 abbrev pub with_sides : (w h : ℕ) → Pane → Pane

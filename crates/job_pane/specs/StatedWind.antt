@@ -1,5 +1,4 @@
--- The wind that a pane line states with its last two numbers: document 01, "The job file", for a `P` line, and document 02, 2026-03,
--- for a `Q` line.
+-- Documents 01 and 02, "The job file": the wind that a pane line states with its last two numbers.
 use Rattle.std.specs.Prelude.{ℕ, Bool, ◌&&◌, leb, eqb, if◌then◌else◌}
 use Rattle.job_line.specs.Bytes.{letter_q}
 use Rattle.job_part.specs.Part.{between}

@@ -3,7 +3,7 @@ ghost use Rattle.std.specs.Prelude.{◌≡◌};
 ghost use Rattle.job_line.specs.Internal.Steps.{as_found};
 ghost use Rattle.job_pane.specs.PaneLine.{pane_of, pane_form};
 ghost use Rattle.job_pane.specs.Internal.Letters.{letter_line};
-ghost use Rattle.job_pane.specs.Internal.Values.{allowed_id};
+ghost use Rattle.job_pane.specs.Internal.Values.{allowed_pane_id};
 
 use crate::Pane;
 use crate::winds::{is_allowed_wind, wind_of};
@@ -13,7 +13,7 @@ use job_part::{Entry, is_between};
 impl Entry for Pane {
     ghost form = { pane_form };
 
-    ghost id_high = { allowed_id };
+    ghost id_high = { allowed_pane_id };
 
     // A line of the letter `P`, or else of `Q`.
     #[tactic(auto, using(crate::proofs::Lines::by_letter))]

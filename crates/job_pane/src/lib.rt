@@ -1,4 +1,4 @@
-// The pane part of a job file: document 01, "The job file", and document 02, 2026-03.
+// The pane part of a job file: documents 01 and 02, "The job file".
 #![tactic(auto)]
 
 mod entry;

@@ -1,5 +1,5 @@
--- Document 01, "The job file" and "What each cause gives", rows 4, 5, 6 and 8 (row 7 went with document 02, 2026-01): a part and its lines,
--- which are judged one after the other. The glass part and the pane part differ in what a `Form` has, and in nothing else.
+-- Documents 01 and 02, "The job file" and "What each cause gives", rows 4, 5, 6 and 8: a part and its lines, which are judged one after the
+-- other. The glass part and the pane part differ in what a `Form` has, and in nothing else.
 use Rattle.std.specs.Prelude.{ℕ, zero, suc, ◌-◌, Bool, true, false, not, ◌&&◌, List, [], ◌∷◌, ◌++◌, map, leb, length, if◌then◌else◌}
 use Rattle.causes.specs.declared.Cause.{Cause}
 use Rattle.ids.specs.Ids.{among}
@@ -20,6 +20,7 @@ pub record Form (A : Type 0) : Type 0 where
   -- how many lines the part may have
   pub most : ℕ
 
+-- A number from one bound to another, both included.
 abbrev pub between : (low high n : ℕ) → Bool
 between low high n = leb low n && leb n high
 

@@ -1,4 +1,5 @@
--- The rules of document 01, "The job file", that the entries of a part keep that is read whole.
+-- The rules that the entries of a part keep that is read whole: documents 01 and 02, "The job file", and "What each cause gives", rows 5,
+-- 6 and 8.
 use Rattle.std.specs.Prelude.{◌≤◌, Bool, List, [], ◌∷◌, map, T, length}
 use Rattle.ids.specs.Ids.{Distinct}
 use Rattle.job_part.specs.Part.{Form}

@@ -1,1 +1,2 @@
+-- What the programs share; all of it serves them.
 pub mod Internal

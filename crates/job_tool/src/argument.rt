@@ -22,9 +22,9 @@ pub enum Unread {
 
 impl fmt::Display for Unread {
     ghost use Rattle.std.specs.Prelude.{Some};
-    ghost use Rattle.job_tool.specs.Internal.Words.{words_of};
+    ghost use Rattle.job_tool.specs.Internal.Words.{unread_words};
 
-    ghost output = { λ unread. Some (words_of unread) };
+    ghost output = { λ unread. Some (unread_words unread) };
 
     fn fmt<W: fmt::Write>(&self, f: &mut fmt::Formatter<W>) -> fmt::Result {
         f.write_str(match self {

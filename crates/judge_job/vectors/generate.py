@@ -786,7 +786,7 @@ def ribbon_constants():
         ask("ribbon-constants", 4 if down == 80 else 0, pane(w=700, h=5000, down=down), sheet._replace(kind=3))
 
 
-def ribbon_orders():
+def ribbon_orders(group="ribbon-order", make=pane):
     """Every set of clauses that fail together for ribbons, as in orders. With AR=3 neither thickness would fail."""
     for w, h in (500, 2500), (2500, 500):
         # monolithic glass under 1.8 kN spans 300 with two edges at 10 mm, and 700 at 12
@@ -794,12 +794,12 @@ def ribbon_orders():
             covers = TWO_COVERS[thick]
             sheet = by_edges(4, constant, MOST, kind=4, thick=thick, w=2500 + covers - lack, h=500 + covers)
             verdict = first_of(top == 3000, lack == 1, thick == 10, constant == 1)
-            ask("ribbon-order", verdict, pane(awning=1, top=top, w=w, h=h), sheet)
+            ask(group, verdict, make(awning=1, top=top, w=w, h=h), sheet)
         # laminated annealed glass under 0.5 kN spans 250 at 10 mm, and 700 at 12
         for lack, thick, constant in itertools.product((0, 1), (12, 10), (MOST, 1)):
             covers = TWO_COVERS[thick]
             sheet = by_edges(4, constant, MOST, kind=1, thick=thick, w=500 + covers, h=2500 + covers - lack)
-            ask("ribbon-order", first_of(False, lack == 1, thick == 10, constant == 1), pane(top=9000, w=w, h=h), sheet)
+            ask(group, first_of(False, lack == 1, thick == 10, constant == 1), make(top=9000, w=w, h=h), sheet)
 
 
 # the kinds and thicknesses with a two-edge span under 1.8 kN
@@ -1088,6 +1088,168 @@ def house_cut_sizes():
             covered_or_not("house-cut-size", 0, it, covering(it, thick=thick))
 
 
+# From here on, several requests of document 02 meet: house panes as ribbons or with two edges, their cut size, and the maximum
+# of tempered glass.
+
+
+def house_sheets():
+    """Clause 2 of house panes in each thickness, as ribbons and with two edges: sheets that just cover a pane, and sheets that
+    one side alone makes too small, by a millimetre or by two covers. Panes and sheets are upright and turned."""
+    for group, edges, shorter, longer in ("house-ribbon-cut-size", 4, 300, 1500), ("house-two-edges-cut-size", 2, 300, 500):
+        for thick, (wind, zone) in zip(THICK, ((1, 2), (6, 1), (7, 2), (10, 1))):
+            first, second = shorter + TWO_COVERS[thick], longer + TWO_COVERS[thick]
+            upright = house(edges, w=shorter, h=longer, wind=wind, zone=zone)
+            for w, h, verdict in (
+                (first, second, 0), (first - 1, second, 2), (first, second - 1, 2), (shorter, second, 2), (first, longer, 2),
+            ):
+                for it in upright, upright._replace(w=longer, h=shorter):
+                    ask(group, verdict, it, glass(thick=thick, w=w, h=h))
+                    ask(group, verdict, it, glass(thick=thick, w=h, h=w))
+
+
+def house_proportions():
+    """House panes beside 3 to 1, on sheets of their cut size and on sheets that lack a millimetre. No cut size is over 3 to 1."""
+    for kind, thick, load, shorter, sides in PROPORTIONS:
+        for longer, verdict in sides if sides[0][0] == 3 * shorter else []:
+            it = house(w=shorter, h=longer, wind=4, zone=2, **LOADED[load])
+            for turned in it, it._replace(w=longer, h=shorter):
+                covered_or_not("house-proportion", verdict, turned, covering(turned, kind, thick))
+
+
+def house_ribbon_orders():
+    """Every set of clauses that fail together for house panes as ribbons."""
+    ribbon_orders("house-ribbon-order", house)
+
+
+def house_tops():
+    """Clause 1 of house panes: of ribbons of each class and zone, and of others."""
+    for wind, zone in CLASSES:
+        ribbon = house(w=200, h=800, wind=wind, zone=zone)
+        shapes = [ribbon, ribbon._replace(w=800, h=200)]
+        if wind == 7:
+            shapes += [ribbon._replace(edges=2), ribbon._replace(h=200)]
+        for it, top in itertools.product(shapes, (2999, 3000)):
+            ask("house-top", 1 if top == 3000 else 0, it._replace(top=top), glass(4, 12))
+            ask("house-top", 0, it._replace(top=top), glass(3, 12))
+
+
+def house_spans():
+    """Each of the 48 spans of the two-edge column, as house panes read it with two edges and as ribbons: at the entry, and a
+    millimetre above. An entry above the widest ribbon stops none, and a dash lets none pass."""
+    for (kind, load, thick, (*_, two)), (wind, zone), h in zip(rows(), 3 * CLASSES, 16 * (1, 700, 5000)):
+        it, sheet, reach = house(wind=wind, zone=zone, **LOADED[load]), glass(kind, thick), min(two, WIDEST)
+        if two:
+            ask("house-two-edges-span", 0, it._replace(edges=2, w=two, h=h), sheet)
+        ask("house-two-edges-span", 3, it._replace(edges=2, w=two + 1, h=h), sheet)
+        # the shortest of them with w longer, and the longest with h longer
+        for shape in ribbons_of(reach)[1:3] if reach else []:
+            ask("house-ribbon-span", 0, it._replace(**shape), sheet)
+        for shape in ribbons_of(reach + 1)[1:3] if reach < WIDEST else []:
+            ask("house-ribbon-span", 3, it._replace(**shape), sheet)
+
+
+def house_ribbon_classes():
+    """P of ribbons of each class and zone by the wind up, on sheets of their cut size: in 6 mm of kinds 3 and 4, and in 12 mm of
+    kind 1. At 74 degrees these have a minimum of 3 and of 6."""
+    for turn, (wind, zone) in enumerate(CLASSES):
+        w, h = ((200, 800), (900, 240))[wind % 2]
+        it, up = house(angle=74, w=w, h=h, wind=wind, zone=zone), UP[zone][wind - 1]
+        pin("house-ribbon-class", up - 3, it, kind=3 + turn % 3 % 2, thick=6, w=w + 12, h=h + 12)
+        if zone == 2:
+            pin("house-ribbon-class", up - 6, it, kind=1, thick=12, w=w + 18, h=h + 18)
+
+
+# The classes and zones of which the wind down gives P at 30 degrees in 12 mm of every kind, and two of which the wind up does:
+# the maximum there is 98 with kind 1 and 61 with the others, and the minimum 22.
+LOADED_HOUSES = [
+    (1, 1, 142, 105), (1, 2, 142, 105), (2, 1, 158, 121), (3, 1, 193, 156), (4, 1, 239, 202), (7, 1, 241, 204),
+    (3, 2, 248, 248), (10, 2, 976, 976),
+]
+
+
+def house_kinds():
+    """P of house panes in every kind, as ribbons, with two edges, and with four as others."""
+    for group, edges, w, h in ("ribbon", 4, 800, 200), ("edges-2", 2, 200, 70), ("edges-4", 4, 200, 390):
+        for (wind, zone, annealed, tempered), kind in itertools.product(LOADED_HOUSES, KINDS):
+            it = house(edges, 30, w=w, h=h, wind=wind, zone=zone)
+            pin(f"house-kind-{group}", annealed if kind == 1 else tempered, it, kind=kind, thick=12)
+
+
+def given_by_class(it, kind, thick):
+    """What the wind down and the wind up on a house pane give, of which P is the larger."""
+    down, up = pressures(it.wind, it.zone)
+    return {"down": down + dead_load(MAXIMUM[kind], it.angle, thick), "up": up - dead_load(MINIMUM, it.angle, thick)}
+
+
+# The angle of each row, and a thickness and a kind of tempered glass that spans a ribbon there and a degree to each side
+HOUSE_ROWS = [
+    (0, 12, 2), (5, 10, 3), (10, 8, 4), (15, 12, 3), (20, 10, 4), (25, 10, 2), (30, 8, 3), (35, 6, 4), (40, 12, 2), (45, 8, 2),
+    (50, 6, 3), (55, 10, 4), (60, 8, 3), (65, 12, 2), (70, 12, 4), (75, 12, 3),
+]
+# those where the wind down gives P of N1 in zone 2: it does so in 12 mm alone, and under 35 degrees
+HOUSE_ROWS_NEAR = [(0, 12, 2), (5, 12, 3), (10, 12, 4), (15, 12, 2), (20, 12, 3), (25, 12, 4), (30, 12, 2)]
+
+
+def house_rows():
+    """P of ribbons by class in tempered glass, at the angle of each row and a degree to each side: by the wind down with the row
+    at or next below, and by the wind up with the row at or next above."""
+    for name, other, wind, zone, table in (
+        ("down", "up", 1, 1, HOUSE_ROWS), ("down", "up", 1, 2, HOUSE_ROWS_NEAR),
+        ("up", "down", 9, 1, HOUSE_ROWS), ("up", "down", 7, 2, HOUSE_ROWS),
+    ):
+        for (row, thick, kind), step in itertools.product(table, (-1, 0, 1)):
+            if row + step in range(75):
+                w, h = ((800, 200), (200, 5000), (200, 800))[step]
+                it = house(angle=row + step, w=w, h=h, wind=wind, zone=zone)
+                given = given_by_class(it, kind, thick)
+                if given[name] <= given[other]:
+                    raise SystemExit(f"house-rows: at {it.angle} degrees the wind {name} does not give P in zone {zone}")
+                pin(f"house-rows-{name}-zone-{zone}", given[name], it, kind=kind, thick=thick)
+
+
+# Class and zone, angle and thickness, and P with kind 1 and with tempered glass. With kind 1 it is by the wind down. With the
+# others, whose maximum is less, it is by the wind up; the last two are where both winds then give the same.
+CHOSEN = [
+    (1, 1, 70, 8, 70, 63), (1, 2, 36, 12, 138, 105), (2, 1, 70, 12, 98, 85), (2, 2, 30, 12, 158, 151), (3, 1, 35, 8, 158, 135),
+    (4, 1, 10, 10, 235, 200), (5, 1, 30, 12, 305, 303), (7, 1, 26, 10, 230, 198), (8, 1, 31, 12, 310, 299),
+    (4, 1, 5, 10, 236, 200), (7, 1, 41, 12, 231, 198),
+]
+
+
+def house_chosen():
+    """House panes of which the maximum decides which wind gives P, in each class and zone where it can. They are ribbons if the
+    glass spans one. One below the least constant for the P of kind 1 fails with kind 1, and passes with the others."""
+    if {row[:2] for row in CHOSEN} != set(DOWN_GIVES_P["annealed"]):
+        raise SystemExit("house-chosen: not in each class and zone of which the wind down gives P with kind 1")
+    for wind, zone, angle, thick, annealed, tempered in CHOSEN:
+        for kind in KINDS:
+            w, h = (200, 200) if (kind, thick) in NO_SPAN["1.1" if angle < 30 else "0.5", 2] else (800, 200)
+            it = house(angle=angle, w=w, h=h, wind=wind, zone=zone)
+            pin("house-chosen", annealed if kind == 1 else tempered, it, kind=kind, thick=thick)
+            if kind != 1:
+                ask("house-chosen", 0, it, by_edges(4, least_constant(200, annealed) - 1, 1, kind=kind, thick=thick))
+
+
+def house_two_edges():
+    """P of house panes with two edges, whose span is w whatever h is."""
+    for wind, zone, kind, thick, pressure in HOUSES:
+        for h in 1, 80, 240, 700, 5000:
+            pin("house-two-edges", pressure, house(2, w=240, h=h, wind=wind, zone=zone), kind=kind, thick=thick)
+
+
+def house_ribbon_limits():
+    """The narrowest and the widest ribbons in the strongest wind, which is up."""
+    for kind, thick in itertools.product(KINDS, THICK):
+        verdict = 0 if (kind, thick) in AWNINGS else 3
+        for top, stated in (MOST, 1 if kind == 4 else verdict), (0, verdict):
+            for w, h in (1, 5000), (5000, 1):
+                ask("house-ribbon-limits", stated, house(4, 74, 1, top, w, h, 10, 2), glass(kind, thick, stock=999))
+    # 12 mm has a minimum of 18 at 45 degrees and of 26 at 0: P is 980 and 972
+    for angle, span, longer, least in (45, 1, 4, 32), (45, 1, 5000, 32), (0, 1666, 4999, 51941), (0, 1666, 5000, 51941):
+        for w, h in (span, longer), (longer, span):
+            root("house-ribbon-limits", least, house(4, angle, w=w, h=h, wind=10, zone=2), 12, w=w + 18, h=h + 18)
+
+
 def most_houses():
     """256 pane lines: panes with the pressures of each class and zone, and the house panes themselves, in turn. At 74 degrees,
     6 mm has a maximum of 12 and a minimum of 3, so the wind up gives P. The last panes are asked with glasses that just bear
@@ -1255,7 +1417,9 @@ for group in (
     live_loads, limits, stocks, ribbon_spans, ribbon_columns, ribbon_sides, ribbon_live_loads, ribbon_sizes, ribbon_roots,
     ribbon_winds, ribbon_constants, ribbon_orders, ribbon_limits, cut_sizes, cut_size_ways, cut_size_most, cut_size_least,
     cut_size_thicknesses, cut_size_fields, cut_size_orders, sight_spans, sight_uniform_loads, sight_proportions, house_winds,
-    house_figures, house_orders, house_numbers, house_ribbons, house_cut_sizes,
+    house_figures, house_orders, house_numbers, house_ribbons, house_cut_sizes, house_sheets, house_proportions,
+    house_ribbon_orders, house_tops, house_spans, house_ribbon_classes, house_kinds, house_rows, house_chosen, house_two_edges,
+    house_ribbon_limits,
 ):
     group()
 paper_job()

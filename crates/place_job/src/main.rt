@@ -1,5 +1,4 @@
-// Whether `place` keeps what document 01 says of it: "The placing", with the refusals of "What each cause gives"; and document 02,
-// 2026-04, of the order of the group, and 2026-05, of the number placed.
+// Whether `place` keeps what documents 01 and 02 say of it: "The placing", with the refusals of "What each cause gives".
 //
 // Each argument is the name of a job file, with which the call is made several times. A line for each file says `NAME: full` where
 // every pane was placed; `NAME: short by NUMBER`, the panes left over; `NAME: refused NUMBER OFFSET`; or `NAME: wrong: RULE`, the first

@@ -1,5 +1,4 @@
-// The rules that the result of a call keeps: document 01, "The placing", and document 02, 2026-04, on the order of the group, and
-// 2026-05, on the number placed.
+// The rules that the result of a call keeps: documents 01 and 02, "The placing".
 use crate::job::Job;
 use crate::lists::Lists;
 use causes::Refusal;

@@ -3,12 +3,12 @@
 Run `python3 generate.py`. Each job is made so that a full placing of it exists, or that so many panes are left over by any
 placing that serves the most, and that is stated here from document 01 and document 02, 2026-01 to 2026-06. Nothing is written
 where placing.py, which finds it by the verdicts of judge_job's clauses.py, says otherwise, or where reader.py of check_job's
-vectors reads a file otherwise. By how many the jobs named roof-*-short, eased-roof-* and runs-*-short are short is not known
-from how they are made, and was taken from placing.py: of the runs it finds the number by two ways, of the roofs by the flow
-alone. Ribbons are panes with four edges that are more than three times as long as wide, along w or along h. House panes have a
-wind class and a zone. Tempered glass is that of kinds 2, 3 and 4, whose maximum dead load is less than that of kind 1. Where a
-job has only one short group, or only one that is short by all panes that are left over, and that is stated here, the line that
-is due of it stands in the job's notes.
+vectors reads a file otherwise. By how many the jobs named roof-*-short, eased-roof-*, mixed-roof-* and runs-*-short are short
+is not known from how they are made, and was taken from placing.py: of the runs it finds the number by two ways, of the roofs by
+the flow alone. Ribbons are panes with four edges that are more than three times as long as wide, along w or along h. House panes
+have a wind class and a zone. Tempered glass is that of kinds 2, 3 and 4, whose maximum dead load is less than that of kind 1.
+Where a job has only one short group, or only one that is short by all panes that are left over, and that is stated here, the
+line that is due of it stands in the job's notes.
 """
 import pathlib
 import random
@@ -258,14 +258,15 @@ RIBBON_RACK = [
     (1, 10, 250, 5000, 5016), (3, 6, 650, 4500, 4512), (1, 12, 700, 4000, 4018), (2, 8, 800, 3500, 3516),
     (2, 10, 1600, 3000, 3016),
 ]
+# a ribbon as wide as each sheet can span and as long as the next one can cover, and one as long as the first can cover
+RIBBON_SIDES = [(this[2], following[3]) for this, following in zip(RIBBON_RACK, RIBBON_RACK[1:])] + [(250, 5000)]
 
 
 def ribbon_chains():
     """Ribbon n is as wide as sheet n can span and as long as sheet n+1 can cover, and suits these two. The last one is as long
     as the first sheet can cover, and suits it alone: all the others move over."""
     glasses = [glass(1, kind, thick, 2000, length) for kind, thick, _, _, length in RIBBON_RACK]
-    sides = [(this[2], following[3]) for this, following in zip(RIBBON_RACK, RIBBON_RACK[1:])] + [(250, 5000)]
-    panes = [pane(w=w, h=h) if place % 2 else pane(w=h, h=w) for place, (w, h) in enumerate(sides)]
+    panes = [pane(w=w, h=h) if place % 2 else pane(w=h, h=w) for place, (w, h) in enumerate(RIBBON_SIDES)]
     if rows_of(glasses, panes) != [[0, 1], [1, 2], [2, 3], [3, 4], [0]]:
         raise SystemExit("ribbon-chain: the ribbons do not suit the sheets that were meant")
     job("ribbon-chain-5", "full", glasses, panes, chain=5)
@@ -1079,6 +1080,168 @@ def eased_roofs():
         eased(name, due, by_kind_1, glasses, panes, **random_ids(dice, glass_count, pane_count))
 
 
+# From here on, several requests of document 02 meet, on roofs with ribbons of both letters.
+
+
+def as_two_edges(it):
+    """A ribbon as a pane with two edges: its span is then w, and its constant "two". Any other pane as it is."""
+    return it._replace(edges=2) if is_ribbon(it) else it
+
+
+def of_both_letters(panes):
+    """These panes, with ribbons of both letters among them."""
+    if {is_house(it) for it in panes if is_ribbon(it)} != {False, True}:
+        raise SystemExit(f"not ribbons of both letters: {panes}")
+    return panes
+
+
+def mixed_groups():
+    """Ribbons and panes of C4 in zone 2 need the sheets of 12 mm: the 10 mm spans 250 of a ribbon, and just does not bear that
+    wind, as in house_yields. Two other panes have the 10 mm to spare, and take 12 mm by first fit."""
+    c4 = house(wind=10, zone=2)
+    roof = [
+        (310, pane(w=600, h=900)), (205, pane(w=500, h=2000)), (44, house(w=500, h=900)), (9, c4),
+        (87, house(w=2101, h=700, wind=4, zone=2)), (150, house(w=300, h=1200, wind=8, zone=1)), (12, c4),
+    ]
+    ids, panes = [id for id, _ in roof], of_both_letters([it for _, it in roof])
+    thick, thin, group = glass(4, kind=1, thick=12), glass(9, kind=1, thick=10, four=6270), [9, 12, 87, 150, 205]
+    job("mixed-ribbons-full", "full", [thick._replace(stock=5), thin], panes, pane_ids=ids, chain=2)
+    job("mixed-ribbons-short", "short by 1", [thick, thin], panes, pane_ids=ids, group=group, under={2: 3})
+    tell("mixed-ribbons-short", "short by 1", [thick, thin], panes, [other_zone, class_below, numbers_as_pressures])
+    hold("mixed-ribbons-short, shortened", "full", [thick, thin], [shortened(it) for it in panes])
+    rack = [thick._replace(stock=2), thin]
+    job("mixed-ribbons-short-by-3", "short by 3", rack, panes, pane_ids=ids, whole=group, under={2: 4})
+    hold("mixed-ribbons-short-by-3, shortened", "short by 1", rack, [shortened(it) for it in panes])
+
+
+def mixed_places():
+    """A roof that is short in two places: of 12 mm for three ribbons, and of 10 mm for three panes of C4 in zone 2, whose P of
+    980 the 12 mm does not bear. Two other panes have 8 mm to spare, and take a sheet of either by first fit."""
+    c4 = house(wind=10, zone=2)
+    roof = [
+        (70, pane(w=300, h=300)), (31, pane(w=500, h=2000)), (60, house(w=300, h=300)), (8, c4), (52, pane(w=2000, h=500)),
+        (20, c4), (9, house(w=500, h=1600)), (41, c4),
+    ]
+    ids, panes = [id for id, _ in roof], of_both_letters([it for _, it in roof])
+    rack = [glass(kind=1, thick=12, four=6000), glass(2, kind=1, thick=10, four=6271), glass(9, kind=1, thick=8, four=6000)]
+    job("mixed-ribbons-places-two", "short by 3", rack, panes, pane_ids=ids, whole=[8, 9, 20, 31, 41, 52], under={2: 5})
+
+
+def mixed_ribbon_chains():
+    """The sheets of ribbon_chains, two of each, with a ribbon of each letter for a sheet and the next, and with one that comes
+    last and suits the first sheet alone. No glass spans two more."""
+    glasses = [glass(2, kind, thick, 2000, length) for kind, thick, _, _, length in RIBBON_RACK]
+    chain = [it for w, h in RIBBON_SIDES[:-1] for it in (pane(w=w, h=h), house(w=h, h=w, wind=10, zone=2))]
+    panes = of_both_letters([pane(w=1601, h=5000), *chain, house(w=5000, h=1601), house(w=250, h=5000, wind=6, zone=1)])
+    if rows_of(glasses, panes) != [[], [0, 1], [0, 1], [1, 2], [1, 2], [2, 3], [2, 3], [3, 4], [3, 4], [], [0]]:
+        raise SystemExit("mixed-ribbons-most-by-chain: the ribbons do not suit the sheets that were meant")
+    job("mixed-ribbons-most-by-chain", "short by 2", glasses, panes, pane_ids=range(110, 0, -10), whole=[20, 110], under={5: 3})
+
+
+def mixed_by_four():
+    """Over 700 under P 124, in 12 mm of kind 1 with N1 in zone 2, a ribbon needs a constant of 7795. With two edges, one ribbon
+    would be too wide for the sheet, and the constant for two would not do for any."""
+    panes = of_both_letters([
+        pane(w=800, h=1500), house(w=500, h=2000, wind=2, zone=1), pane(w=2000, h=500, down=60, up=95),
+        house(w=2101, h=700, wind=1, zone=2), house(w=900, h=900),
+    ])
+    sheet, thin = glass(3, kind=1, thick=12, two=1, four=7795), glass(2, kind=1, thick=10)
+    job("mixed-ribbons-by-four", "full", [sheet, thin], panes, chain=2)
+    hold("mixed-ribbons-by-four, with two edges", "short by 3", [sheet, thin], [as_two_edges(it) for it in panes])
+    job("mixed-ribbons-by-four-one-below", "short by 1", [sheet._replace(four=7794), thin], panes, whole=[4])
+
+
+# thickness and sides of sheets that just cover a ribbon of 300 by 1500
+RIBBON_COVERING = [(6, 312, 1512), (8, 316, 1516), (10, 316, 1516), (12, 318, 1518)]
+
+
+def by_sight_size(name, due, glasses, panes):
+    """What would be due of a job if a sheet needed to cover no more than the sight size."""
+    covers = [2 * clauses.EDGE_COVER[it.thick] for it in glasses]
+    larger = [it._replace(w=it.w + more, h=it.h + more) for it, more in zip(glasses, covers)]
+    hold(f"{name}, by sight size", due, larger, panes)
+
+
+def mixed_covers():
+    """Panes of both letters on one sheet of each thickness, of their cut size and a millimetre less long or less wide. The sight
+    size is less by more."""
+    panes = of_both_letters([
+        pane(w=300, h=1500), house(w=1500, h=300, wind=4, zone=2), house(2, w=300, h=1500), house(w=300, h=1500, wind=10),
+    ])
+    rack = [glass(thick=thick, w=w, h=h) for thick, w, h in RIBBON_COVERING]
+    less = {side: [it._replace(**{side: getattr(it, side) - 1}) for it in rack] for side in ("w", "h")}
+    job("mixed-covers", "full", rack, panes)
+    for side, lacking in less.items():
+        job(f"mixed-covers-{side}-lacks", "short by 4", lacking, panes, whole=range(1, 5))
+        by_sight_size(f"mixed-covers-{side}-lacks", "full", lacking, panes)
+    # two of the sheets lack a millimetre
+    rack, ids = [rack[0], less["w"][1], rack[2], less["h"][3]], (50, 9, 700, 33)
+    job("mixed-covers-two-lack", "short by 2", rack, panes, pane_ids=ids, whole=sorted(ids))
+    by_sight_size("mixed-covers-two-lack", "full", rack, panes)
+
+
+def mixed_cover_yields():
+    """The roofs of cover_yields with ribbons, which sheets of 400 by 2000 cover in every thickness, up to 10 mm and in 6 mm."""
+    every, up_to_10 = house(w=1982, h=382, wind=5, zone=2), pane(w=384, h=1984)
+    panes = of_both_letters([up_to_10, every, house(w=388, h=1988, wind=9, zone=1)])
+    rack = [glass(thick=thick, w=400, h=2000) for thick in (6, 10, 12)]
+    if rows_of(rack, panes) != [[0, 1], [0, 1, 2], [0]]:
+        raise SystemExit("mixed-cover-yield-twice: the ribbons do not suit the sheets that were meant")
+    job("mixed-cover-yield-twice", "full", rack, panes, chain=3)
+    # sheets enough, but one too few of 6 and 10 mm
+    rack, panes, ids = [*rack[:2], rack[2]._replace(stock=9)], [*panes, up_to_10], (40, 3, 21, 9)
+    job("mixed-cover-yield-twice-short", "short by 1", rack, panes, pane_ids=ids, group=[9, 21, 40])
+    by_sight_size("mixed-cover-yield-twice-short", "full", rack, panes)
+
+
+def eased_mixed():
+    """Ribbons of both letters that tempered sheets serve, and would not by the maximum of kind 1."""
+    # at 45 degrees, 10 mm has 67 with kind 1 and 42 with the others, and N2 in zone 1 has P 60 more: a ribbon of 250 needs
+    # constants of 2818 and 2525. The second may not have monolithic glass, and the first moves over to it
+    panes = of_both_letters([pane(w=250, h=1000, top=2999, down=60, up=95), house(w=1000, h=250, top=3000, wind=2, zone=1)])
+    for name, due, four, more in (
+        ("", "full", 2817, dict(chain=2)), ("-least", "full", 2525, dict(chain=2)),
+        ("-one-below", "short by 1", 2524, dict(group=[1, 2])),
+    ):
+        rack = [glass(kind=1, thick=10), glass(kind=4, thick=10, four=four)]
+        eased(f"eased-mixed-yield{name}", due, "short by 1", rack, panes, **more)
+    # 12 mm has 80 and 50, and a minimum of 18. C1 in zone 1 has P 198 by the wind up, where kind 1 has 223 by the wind down: a
+    # ribbon of 700 needs constants of 9850 and 10454
+    c1, as_c1 = house(w=700, h=2800, wind=7, zone=1), pane(w=2800, h=700, down=143, up=216)
+    panes = of_both_letters([c1, as_c1, c1._replace(w=2800, h=700)])
+    for name, due, four in ("", "full", 10453), ("-least", "full", 9850), ("-one-below", "short by 3", 9849):
+        rack = [glass(kind=kind, thick=12, four=four) for kind in (2, 3, 4)]
+        eased(f"eased-mixed-by-up{name}", due, "short by 3", rack, panes)
+    # sheets of kind 1 serve none of them, and there are two of the others
+    rack, ids = [glass(9 if kind == 1 else 1, kind, 12, four=10453) for kind in (1, 2, 3)], (61, 7, 5000, 62)
+    eased("eased-mixed-short", "short by 2", "short by 4", rack, [*panes, as_c1], pane_ids=ids, whole=sorted(ids))
+
+
+# Six misreadings of a pane, and which panes they are of
+MISREADINGS = [
+    (shortened, is_ribbon), (as_two_edges, is_ribbon), (other_zone, is_house), (class_below, is_house), (class_above, is_house),
+    (numbers_as_pressures, is_house),
+]
+
+
+def mixed_roofs():
+    """Roofs with ribbons of both letters and with sides that a sheet just covers in one thickness or another: by how many they
+    are short, and would be by first fit, by the maximum of kind 1, by sight size and by each of these misreadings. All but the
+    number of first fit the flow told."""
+    sides = (300, 350, 400, 500, 600, 900, 1182, 1184, 1188, 1782, 1784, 1788)
+    for name, seed, left_over, first_fit, *others in (
+        ("mixed-roof", 113, 0, 6, 1, 0, 0, 6, 1, 1, 1, 0), ("mixed-roof-short", 3494, 5, 7, 6, 4, 2, 6, 6, 4, 6, 4),
+    ):
+        dice, (by_kind_1, sight, *misread) = random.Random(seed), map(line_of, others)
+        glasses, panes = random_roof(name, dice, 24, 48, 4, sides, houses=True)
+        ids = random_ids(dice, 24, 48)
+        eased(name, line_of(left_over), by_kind_1, glasses, of_both_letters(panes), under={2: first_fit}, **ids)
+        by_sight_size(name, sight, glasses, panes)
+        for (misreading, is_of), due in zip(MISREADINGS, misread, strict=True):
+            roof = [misreading(it) if is_of(it) else it for it in panes]
+            hold(f"{name}, {misreading.__name__}", due, glasses, roof)
+
+
 def write():
     shutil.rmtree(CRATE / "data", ignore_errors=True)
     (CRATE / "data").mkdir()
@@ -1098,6 +1261,7 @@ for group in (
     groups_of_one, groups_of_256, groups_between, group_letters, two_groups, largest_group, other_groups, served_by_chains,
     served_on_short_sheets, served_past_shortages, places_apart, places_with_nothing, joined_shortages, groups_with_more_beside,
     short_by_most, number_by_clauses, random_shortages, eased_kinds, eased_shapes, eased_numbers, eased_roofs,
+    mixed_groups, mixed_places, mixed_ribbon_chains, mixed_by_four, mixed_covers, mixed_cover_yields, eased_mixed, mixed_roofs,
 ):
     group()
 write()

@@ -2,6 +2,6 @@
 -- Of a call of `place` that is not refused.
 pub use Rattle.placing.proofs.Promises.{counted_of}
 -- Of the sheets that are missing of a file.
-pub use Rattle.placing.proofs.Shortages.{sheets_missing}
+pub use Rattle.placing.proofs.Shortages.{file_missing_sheets}
 -- Of lists of answers.
 pub use Rattle.row_placing.proofs.Laws.{nonzero_le}

@@ -1,13 +1,10 @@
 -- What is made of a job that was read states its schedule.
 --     known_file    an accepted file has what the placing asks of a schedule
 --     stated_job    its rows, stocks and ids state its schedule
---     taken_long    as many entries of a list of 256 as panes
-use Prim.Native.Nat.{ℕ, ◌≤◌}
+use Prim.Native.Nat.{ℕ}
 use mathlib.Core.Path.{◌≡◌, ap, sym, ◌∙◌}
 use mathlib.Core.List.{List}
-use native.Mathlib.Omega.{arith}
-use lib.ListN.{length, get_or, replicate, take, length-map, get_or-map, get_or-append}
-use lib.Seq.{length-take-le}
+use lib.ListN.{get_or, replicate, length-map, get_or-map, get_or-append}
 use Rattle.basics.specs.Internal.Arrays.{written}
 use Rattle.job_glass.specs.GlassLine.{blank_glass}
 use Rattle.job_glass.specs.declared.Glass.{Glass}
@@ -50,6 +47,3 @@ stated_job {glasses} {panes} rules rows stocks lent_ids ids are_rows stocks_are 
   glass_ids_are = λ g l. rw lent_are (get_or-append (glass_ids_of glasses) _ 0 g l);
   pane_ids_are = λ p l. ap (λ (ns : List ℕ). get_or ns p 0) ids_are;
 }
-
-pub taken_long : (count : ℕ) (xs : List ℕ) → length xs ≡ 256 → count ≤ 256 → length (take count xs) ≡ count
-taken_long count xs long few = length-take-le count xs (omega (arith, long, few))

@@ -1,2 +1,2 @@
--- What the functions leave.
+-- The rows that are made of a job.
 pub mod Steps

@@ -3,13 +3,12 @@
 use Rattle.std.specs.Prelude.{ℕ, List}
 use Rattle.job_glass.specs.declared.Glass.{Glass}
 use Rattle.job_pane.specs.declared.Pane.{Pane}
-use Rattle.job_file.specs.Entries.{stocks_of}
 use Rattle.job_file.specs.Rules.{Rules}
 use Rattle.row_placing.specs.Glazing.{Glazing}
 use Rattle.row_placing.specs.MissingSheets.{MissingSheets}
-use Rattle.placing.specs.FileSchedule.{schedule_of}
+use Rattle.placing.specs.FileSchedule.{file_schedule}
 
-abbrev pub SheetsMissing : List Glass → List Pane → Type 0
-SheetsMissing glasses panes =
-    Rules glasses panes → (ids group : List ℕ) (placed : ℕ) → Glazing (schedule_of glasses (stocks_of glasses) panes) ids group placed →
-    MissingSheets (schedule_of glasses (stocks_of glasses) panes) ids placed
+abbrev pub FileMissingSheets : List Glass → List Pane → Type 0
+FileMissingSheets glasses panes =
+    Rules glasses panes → (ids group : List ℕ) (placed : ℕ) → Glazing (file_schedule glasses panes) ids group placed →
+    MissingSheets (file_schedule glasses panes) ids placed

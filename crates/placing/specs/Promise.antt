@@ -1,23 +1,16 @@
--- What the call `place` promises: document 01, "The placing" and "What each cause gives", the owner's three demands, and document 02,
--- 2026-04 and 2026-05. Of every file and every two lists it is refused, with the number and the offset of the first cause and both lists
--- as they were, or it has placed the panes of the file; and it is refused only where there is a cause.
-use Rattle.std.specs.Prelude.{ℕ, ◌≡◌, Bool, true, false, ◌||◌, List, Result, Ok, Err, ltb, length}
+-- What the call `place` promises: documents 01 and 02, "The placing" and "What each cause gives", and the owner's three demands. Of every
+-- file and every two lists it is refused, with the number and the offset of the first cause and both lists as they were, or it has placed the
+-- panes of the file; and it is refused only where there is a cause.
+use Rattle.std.specs.Prelude.{ℕ, ◌≡◌, Bool, true, false, ◌||◌, List, ltb, length}
 use Rattle.causes.specs.Answer.{Answer, gives, refusal}
 use Rattle.causes.specs.declared.Cause.{Cause}
-use Rattle.causes.specs.declared.Refusal.{Refusal}
 use Rattle.causes.specs.declared.Cause.TheVariants.{ListTooShort}
 use Rattle.job_file.specs.File.{Outcome, accepted, refused}
-use Rattle.job_file.specs.Entries.{stocks_of}
 use Rattle.row_placing.specs.Schedule.{Schedule}
 use Rattle.basics.specs.Lent.{Lent, lent}
 use Rattle.row_placing.specs.Glazed.{Glazed}
 use Rattle.row_placing.specs.declared.PlaceCounts.{PlaceCounts}
-use Rattle.placing.specs.FileSchedule.{schedule_of}
-
--- What each case of the code's result says: the counts wanted, placed and group, or a refusal.
-abbrev pub placed_says : Result PlaceCounts Refusal → Answer PlaceCounts
-placed_says (Ok counts) = gives counts
-placed_says (Err r) = refusal r.cause r.offset
+use Rattle.placing.specs.FileSchedule.{file_schedule}
 
 -- A call: its result, and the two lent lists before it and after it.
 pub record Call : Type 0 where
@@ -56,4 +49,4 @@ PromisedOf s c false = PlacedCall s c
 -- The promise: the file's own refusal; then that of a list that is too short; else the placing of the file's panes from its stocks.
 unfoldable pub Promised : Outcome → Call → Type 0
 Promised (refused cause offset) c = RefusedCall cause offset c
-Promised (accepted glasses panes) c = PromisedOf (schedule_of glasses (stocks_of glasses) panes) c (is_too_short c (length panes))
+Promised (accepted glasses panes) c = PromisedOf (file_schedule glasses panes) c (is_too_short c (length panes))

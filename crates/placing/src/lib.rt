@@ -1,4 +1,4 @@
-// The placing: document 01, "The placing", and document 02, 2026-04 and 2026-05.
+// The placing: documents 01 and 02, "The placing".
 //
 // `place` gives the panes of a job file sheets. It answers for every list of bytes and any two lent lists, as
 // specs/Promise.antt says. `place_panes` does it for a job that was read: the rows of its panes, and then `place_rows`.
@@ -14,7 +14,8 @@ ghost use Rattle.job_file.specs.Internal.Job.{glasses_of, panes_of};
 ghost use Rattle.job_file.specs.Entries.{stocks_of};
 ghost use Rattle.row_placing.specs.Glazed.{Glazed};
 ghost use Rattle.placing.specs.FileSchedule.{schedule_of};
-ghost use Rattle.placing.specs.Promise.{placed_says, call, Promised};
+ghost use Rattle.causes.specs.Answer.{answer_of};
+ghost use Rattle.placing.specs.Promise.{call, Promised};
 
 use causes::{Cause, Refusal};
 use job_file::{Job, read_job};
@@ -27,7 +28,7 @@ pub use rows::rows_of;
 // since C lends two.
 pub fn place(file: &[u8], answers: &mut [u32], group: &mut [u32]) -> Result<PlaceCounts, Refusal>
     ensures { Promised (outcome_of file.now)
-        (call (placed_says result) answers.old answers.new group.old group.new) }
+        (call (answer_of result) answers.old answers.new group.old group.new) }
 {
     let job = read_job(file)?;
     let shorter = answers.len().min(group.len());

@@ -1,4 +1,4 @@
--- Document 01, "The four clauses": clause 3, the point load (AS 1288, 6.5.4). Its tables are in span_table.
+-- Documents 01 and 02, "The four clauses": clause 3, the point load (AS 1288, 6.5.4). Its tables are in span_table.
 pub mod LiveLoad
 pub mod Support
 pub mod PointLoad

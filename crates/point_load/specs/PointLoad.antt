@@ -8,9 +8,9 @@ use Rattle.span_table.specs.declared.Column.{Column}
 use Rattle.point_load.specs.Support.{column_of, span_of}
 
 -- The entry for a pane and a glass, in a column.
-abbrev pub entry_in : Column → Pane → Glass → ℕ
-entry_in column p g = max_span g.kind (live_load p.angle p.awning) g.thick column
+abbrev pub span_entry : Column → Pane → Glass → ℕ
+span_entry column p g = max_span g.kind (live_load p.angle p.awning) g.thick column
 
 -- The clause fails where the span is larger than the entry in the pane's column; an equal one passes.
 abbrev pub point_load_fails : Pane → Glass → Bool
-point_load_fails p g = ltb (entry_in (column_of p) p g) (span_of p)
+point_load_fails p g = ltb (span_entry (column_of p) p g) (span_of p)

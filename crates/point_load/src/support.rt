@@ -6,21 +6,20 @@ use job_pane::Pane;
 use span_table::Column;
 
 // The column of Tables 6.2 to 6.5 that a pane reads.
+#[tactic(auto, unfolding(crate::specs::Support::column_of))]
 pub fn column(pane: Pane) -> Column
     ensures { result ≡ column_of pane }
 {
     let width = u64::from(pane.w.min(pane.h));
     let length = u64::from(pane.w.max(pane.h));
-    if pane.edges == 2 {
+    if pane.edges == 2 || 3 * width < length {
         Column::TwoEdge
     } else if pane.w == pane.h {
         Column::Ar1
     } else if length <= 2 * width {
         Column::Ar2
-    } else if length <= 3 * width {
-        Column::Ar3
     } else {
-        Column::TwoEdge
+        Column::Ar3
     }
 }
 

@@ -1,2 +1,2 @@
--- What the functions of the crate ask.
+-- What the functions that write the text ask of its numbers.
 pub mod Steps

@@ -1,5 +1,5 @@
--- The front page: what the call `report` promises.
-pub mod Reported
 -- The text that `canopy` prints.
 pub mod Text
+-- What the call `report` promises.
+pub mod Reported
 pub mod Internal

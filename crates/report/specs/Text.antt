@@ -1,4 +1,4 @@
--- Document 01, "The program `canopy`": the text that it prints. Bytes are ASCII.
+-- Documents 01 and 02, "The program `canopy`": the text that it prints. Bytes are ASCII.
 use Rattle.std.specs.Prelude.{ℕ, zero, suc, List, [], ◌∷◌, ◌++◌, eqb, get_or, if◌then◌else◌}
 use Rattle.job_line.specs.Bytes.{newline, bytes_of}
 use Rattle.job_line.specs.WrittenNumber.{written_number, written_numbers}

@@ -1,4 +1,4 @@
-// Ids from the lowest up: document 02, 2026-04. A set of ids is filled one by one, and listed word by word.
+// Ids from the lowest up: documents 01 and 02, "The placing". A set of ids is filled one by one, and listed word by word.
 #![tactic(auto)]
 
 mod list;

@@ -5,5 +5,5 @@ pub mod Stated
 -- Entries by their places, and a placing by the places of its glasses.
 pub mod Entries
 pub mod Holding
--- What the functions below it ask and leave.
+-- What the functions that `place_rows` calls ask and leave.
 pub mod Steps

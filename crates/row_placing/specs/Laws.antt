@@ -1,5 +1,5 @@
--- What follows from the definitions of a placing, a short group and what the placing is to give alone, of any schedule: the owner's demands
--- 2 and 3, and request 2026-05. Nothing is asked of it: ids may repeat or be 0, and there may be any number of glasses.
+-- Laws of placings and short groups, from their definitions alone: the two halves of demand 3 agree. They are of any schedule, whose ids may
+-- repeat or be 0, and which may have any number of glasses.
 use Rattle.std.specs.Prelude.{ℕ, ◌-◌, ◌≤◌, ◌<◌, ◌≡◌, true, List, length, get_or}
 use Rattle.ids.specs.Ids.{among}
 use Rattle.row_placing.specs.Schedule.{Schedule}
@@ -19,7 +19,7 @@ pub record PlacingLaws (s : Schedule) : Type 0 where
   pub left_over :
       (ids group : List ℕ) → Placing s ids → PaneGroup s group → lacking s group ≡ length s.pane_ids - nonzero ids →
       (i : ℕ) → i < length s.pane_ids → get_or ids i 0 ≡ 0 → among (get_or s.pane_ids i 0) group ≡ true
-  -- the number placed is not open: whatever the placing gives, it is the same
+  -- whatever the placing gives, the number placed is the same
   pub one_number :
       (ids group : List ℕ) (placed : ℕ) → Glazing s ids group placed →
       (other_ids other_group : List ℕ) (other : ℕ) → Glazing s other_ids other_group other → placed ≡ other

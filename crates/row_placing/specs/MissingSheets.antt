@@ -1,5 +1,5 @@
--- How many sheets are missing where panes are left over: what follows from request 2026-05 for who orders more. Fewer sheets more than panes
--- are left over are never enough. As many are, if some glass passes for each of these panes: one sheet more of it, whichever it is.
+-- How many sheets are missing where panes are left over, for who orders more: it follows from the definitions. Where n panes are left over,
+-- fewer than n sheets more are never enough; n are, if some glass passes for each of these panes: one sheet more of it, whichever it is.
 use Rattle.std.specs.Prelude.{ℕ, ◌+◌, ◌-◌, ◌≤◌, ◌<◌, ◌≡◌, true, ◌&&◌, List, eqb, length, get_or, if◌then◌else◌}
 use Rattle.ids.specs.Ids.{Distinct}
 use Rattle.ranges.specs.Ranges.{sum_to}
@@ -34,8 +34,11 @@ chosen s ids choice g = sum_to (λ i. if eqb (get_or ids i 0) 0 && eqb (choice i
 
 -- What is missing of a schedule of which so many panes were placed, by a list of ids that leaves the others over.
 pub record MissingSheets (s : Schedule) (ids : List ℕ) (placed : ℕ) : Type 0 where
+  -- no fewer sheets more than panes are left over are enough
   pub at_least : (more : ℕ → ℕ) → EnoughWith s more → length s.pane_ids - placed ≤ sum_to more (length s.glass_ids)
+  -- one sheet more of a passing glass for each pane that is left over is enough
   pub enough : (choice : ℕ → ℕ) → PassingChoice s ids choice → EnoughWith s (chosen s ids choice)
+  -- and these are as many sheets as panes are left over
   pub as_many :
       (choice : ℕ → ℕ) → PassingChoice s ids choice →
       sum_to (chosen s ids choice) (length s.glass_ids) ≡ length s.pane_ids - placed

@@ -21,7 +21,7 @@ pub record PassingId (s : Schedule) (p id : ℕ) : Type 0 where
   pub passing : s.passes p place ≡ true
 
 -- A way to give panes glasses, as a list with an entry for each pane in order: the id of a glass that passes for it, or 0 where
--- it has none. No glass is given more often than it has sheets. In a file ids differ, and none is 0.
+-- it has none. No glass is given more often than it has sheets. In an accepted file ids differ, and none is 0.
 pub record Placing (s : Schedule) (ids : List ℕ) : Type 0 where
   pub one_each : length ids ≡ length s.pane_ids
   pub passing : (i : ℕ) → i < length s.pane_ids → (get_or ids i 0 ≡ 0) ⊎ PassingId s i (get_or ids i 0)

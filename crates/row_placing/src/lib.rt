@@ -1,4 +1,4 @@
-// The placing over rows: document 01, "The placing", and document 02, 2026-04 and 2026-05.
+// The placing over rows: documents 01 and 02, "The placing".
 //
 // `place_rows` gives panes sheets. It knows of no file and no clause: panes of any kind bring a row and an id each, glasses their
 // sheets and ids. specs/Internal/Promise.antt says what it gives.

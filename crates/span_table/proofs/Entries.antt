@@ -13,7 +13,7 @@ use lib.ListN.{get_or}
 use Rattle.std.proofs.lemmas.Bool.{and_parts}
 use Rattle.ranges.specs.Internal.Counts.{all_to}
 use Rattle.ranges.proofs.All.{all_at}
-use Rattle.span_table.specs.Columns.{place}
+use Rattle.span_table.specs.Columns.{column_number}
 use Rattle.span_table.specs.Spans.{spans, table_number, load_number, thickness_number, max_span}
 use Rattle.span_table.proofs.Rows.{table_high, load_high, thickness_high}
 use Rattle.span_table.specs.declared.Column.{Column}
@@ -53,26 +53,26 @@ all_hold : all_to table_holds 4 ≡ true
 unfolding spans all_to
 all_hold = refl
 
-place_high : (column : Column) → place column < 4
+place_high : (column : Column) → column_number column < 4
 place_high column = grind arith
 
 module _ (kind load thick : ℕ) (column : Column) where
-  holds : entry_holds (table_number kind) (load_number load) (thickness_number thick) (place column) ≡ true
+  holds : entry_holds (table_number kind) (load_number load) (thickness_number thick) (column_number column) ≡ true
   holds =
       let of_table = all_at _ 4 all_hold _ (table_high kind) in
       let of_load = all_at _ 3 of_table _ (load_high load) in
       let of_row = all_at _ 4 of_load _ (thickness_high thick) in
       all_at _ 4 of_row _ (place_high column)
 
-  pub counted : 5 * count (table_number kind) (load_number load) (thickness_number thick) (place column) ≡ max_span kind load thick column
+  pub counted : 5 * count (table_number kind) (load_number load) (thickness_number thick) (column_number column) ≡ max_span kind load thick column
   counted = eqb-true _ _ (and_parts _ _ holds).0
 
   pub ordered :
       (thicker : ℕ) (earlier : Column) →
-      thickness_number thick ≤ thickness_number thicker → place earlier ≤ place column →
+      thickness_number thick ≤ thickness_number thicker → column_number earlier ≤ column_number column →
       max_span kind load thick column ≤ max_span kind load thicker earlier
   ordered thicker earlier h k =
-      let test = is_ordered (table_number kind) (load_number load) (thickness_number thick) (place column) (thickness_number thicker) in
+      let test = is_ordered (table_number kind) (load_number load) (thickness_number thick) (column_number column) (thickness_number thicker) in
       let of_row = all_at _ 4 (and_parts _ _ holds).1 _ (thickness_high thicker) in
       let of_entry = all_at test 4 of_row _ (place_high earlier) in
       leb-true _ _ (rw (le-leb _ _ h, le-leb _ _ k) at of_entry)

@@ -1,4 +1,4 @@
--- Document 02, 2026-07: every span is a multiple of 5 mm. It is stated on the lookup, for any kind, live load, thickness and column; a dash
+-- Every span is a multiple of 5 mm. It is stated on the lookup, for any kind, live load, thickness and column; a dash
 -- is 0.
 use Rattle.std.specs.Prelude.{ℕ, ◌%◌, ◌≡◌}
 use Rattle.span_table.specs.Spans.{max_span}

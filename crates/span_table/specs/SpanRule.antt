@@ -1,7 +1,7 @@
 -- Document 01, "The four clauses", clause 3: what the tables keep to. For one kind and live load, a thicker glass spans no less, and
--- a later column gives no more. It is stated on the lookup, for any two thicknesses and any two columns.
+-- a later column gives no more. It is stated on the lookup, for any two nominal thicknesses and any two columns.
 use Rattle.std.specs.Prelude.{ℕ, ◌≤◌, ◌≡◌, ◌⊎◌}
-use Rattle.span_table.specs.Columns.{place}
+use Rattle.span_table.specs.Columns.{column_number}
 use Rattle.span_table.specs.Spans.{max_span}
 use Rattle.span_table.specs.declared.Column.{Column}
 
@@ -15,4 +15,4 @@ pub record SpanRule (kind load : ℕ) : Type 0 where
       Nominal thin → Nominal thick → thin ≤ thick → max_span kind load thin column ≤ max_span kind load thick column
   pub along_columns :
       (thick : ℕ) (column later : Column) →
-      place column ≤ place later → max_span kind load thick later ≤ max_span kind load thick column
+      column_number column ≤ column_number later → max_span kind load thick later ≤ max_span kind load thick column

@@ -1,4 +1,4 @@
--- A pane whose line states a wind class, as one whose line states the pressures themselves: document 02, 2026-03.
+-- A pane whose line states a wind class, as one whose line states the pressures themselves.
 use Rattle.std.specs.Prelude.{ℕ, ◌≡◌, T}
 use Rattle.job_pane.specs.PaneLine.{allowed_pane}
 use Rattle.job_pane.specs.OtherWind.{with_wind}
@@ -15,5 +15,5 @@ pub record AsPressuresLaws (p : Pane) : Type 0 where
   pub pressures_kept : pressures_of (as_pressures p).wind ≡ pressures_of p.wind
   -- its numbers are among their allowed values where those of the pane are
   pub allowed_kept : T (allowed_pane p) → T (allowed_pane (as_pressures p))
-  -- a `P` pane is its own
+  -- of a `P` pane it is the pane itself
   pub of_pressures : (down up : ℕ) → p.wind ≡ ByPressure down up → as_pressures p ≡ p

@@ -1,4 +1,4 @@
--- A law of clause 4: of a pane with four edges, whatever its sides, K is "four" (document 02, 2026-01).
+-- A law of clause 4: of a pane with four edges, whatever its sides, K is "four".
 use Rattle.std.specs.Prelude.{◌*◌, ◌≡◌, ltb}
 use Rattle.job_glass.specs.declared.Glass.{Glass}
 use Rattle.job_pane.specs.declared.Pane.{Pane}

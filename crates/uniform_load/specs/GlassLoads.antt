@@ -1,4 +1,4 @@
--- Document 01, "The four clauses", clause 4, and document 02, 2026-06: the dead loads of a glass. Those of Table 6.1 are of 6 mm glass;
+-- Documents 01 and 02, "The four clauses", clause 4: the dead loads of a glass. Those of Table 6.1 are of 6 mm glass;
 -- another thickness weighs in proportion.
 use Rattle.std.specs.Prelude.{ℕ, ◌+◌, ◌-◌, ◌*◌, ◌/◌, eqb, if◌then◌else◌}
 use Rattle.job_glass.specs.declared.Glass.{Glass}

@@ -1,4 +1,4 @@
--- Document 01, "The four clauses", clause 4, uniform load (AS 1288, 6.5.5). Pressures are in units of 0.01 kPa.
+-- Documents 01 and 02, "The four clauses", clause 4, uniform load (AS 1288, 6.5.5). Pressures are in units of 0.01 kPa.
 use Rattle.std.specs.Prelude.{ℕ, ◌+◌, ◌-◌, ◌*◌, max, Bool, ltb, eqb, if◌then◌else◌}
 use Rattle.job_glass.specs.declared.Glass.{Glass}
 use Rattle.job_pane.specs.declared.Pane.{Pane}
@@ -22,13 +22,13 @@ design_pressure p g =
 abbrev pub span_constant : ℕ → Glass → ℕ
 span_constant edges g = if eqb edges 2 then g.two else g.four
 
--- The clause fails where B > (K/10) / √(P/100), which is K / √P: squared, so that all numbers are whole. Here of any P.
+-- The clause fails where B > (K/10) / √(P/100), which is K / √P: squared, so that all numbers are whole. It is said of any P.
 abbrev pub fails_under : (P : ℕ) → Pane → Glass → Bool
 fails_under P p g =
     let B : ℕ = span_of p in
     let K : ℕ = span_constant p.edges g in
     ltb (K * K) (B * B * P)
 
--- And by the design pressure.
+-- The clause is by the design pressure.
 abbrev pub uniform_load_fails : Pane → Glass → Bool
 uniform_load_fails p g = fails_under (design_pressure p g) p g

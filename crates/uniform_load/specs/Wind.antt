@@ -1,5 +1,5 @@
--- The pressures of a pane's wind, down and up, in units of 0.01 kPa: as its line states them (document 01, "The job file"), or those of
--- the class and the zone that its line states (document 02, 2026-03). Clause 4 reads a pane's wind by this definition alone.
+-- The pressures of a pane's wind, down and up, in units of 0.01 kPa: as its line states them, or those of the class
+-- and the zone that its line states (documents 01 and 02, "The job file"). Clause 4 reads a pane's wind by this definition alone.
 use Rattle.job_pane.specs.declared.Wind.{Wind}
 use Rattle.job_pane.specs.declared.Wind.TheVariants.{ByPressure, ByClass}
 use Rattle.wind_classes.specs.ClassPressures.{class_pressures}

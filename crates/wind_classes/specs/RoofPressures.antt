@@ -1,5 +1,5 @@
--- AS 1288, Table A2, of which document 02, 2026-03, reads the roofs: ultimate limit state design pressures for houses by wind class, in
--- units of 0.01 kPa and without their sign. Where the standard prints one decimal, the second is 0.
+-- AS 1288, Table A2, roofs: ultimate limit state design pressures for houses by wind class, in units of 0.01 kPa and without their sign.
+-- Where the standard prints one decimal, the second is 0.
 use Rattle.std.specs.Prelude.{ℕ, List, [], ◌∷◌}
 
 -- A row of the table: the ultimate columns "any position", "general away from edges" and "up to 1.2 m from edges".

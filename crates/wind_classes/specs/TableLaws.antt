@@ -6,11 +6,11 @@ use Rattle.wind_classes.specs.declared.Pressures.{Pressures}
 abbrev pub is_class : ℕ → Bool
 is_class class = leb 1 class && leb class 10
 
--- Whether two classes are N1 to N6 or C1 to C4, the second no lower than the first.
+-- Whether two classes are both of N1 to N6 or both of C1 to C4, the second no lower than the first.
 abbrev pub rises_to : (class other : ℕ) → Bool
 rises_to class other = (leb 1 class && leb class other && leb other 6) || (leb 7 class && leb class other && leb other 10)
 
--- Neither pressure is larger.
+-- Neither pressure of the first is above the second's.
 pub record NotAbove (a b : Pressures) : Type 0 where
   pub down : a.down ≤ b.down
   pub up : a.up ≤ b.up

@@ -6,7 +6,7 @@ use Rattle.job_pane.specs.declared.Wind.TheVariants.{ByClass}
 use Rattle.check_job.specs.declared.wind.WindFault.{WindFault}
 use Rattle.check_job.specs.declared.wind.WindFault.TheVariants.{NoClass, NoZone}
 
--- It is the class's fault where zone 1, which every class has, does not mend it.
+-- The class is at fault where the wind is not allowed in zone 1 either, which every class has; else the zone is.
 abbrev pub fault_of : (class zone : ℕ) → Option WindFault
 fault_of class zone =
     if allowed_wind (ByClass class zone) then None

@@ -7,7 +7,7 @@ use Rattle.job_pane.specs.declared.Pane.{Pane}
 use Rattle.clauses.specs.Verdict.{verdict_of}
 use Rattle.clauses.specs.declared.judging.Verdict.{Verdict}
 
--- By the pane and the glass.
+-- What is answered by the pane and the glass that were found, if they were.
 abbrev pub found_answer : Option Pane → Option Glass → Answer Verdict
 found_answer None glass = refusal NoPane 0
 found_answer (Some p) None = refusal NoGlass 0

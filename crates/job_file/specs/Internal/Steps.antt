@@ -1,4 +1,4 @@
--- What the reader's steps promise, in the words of the definitions.
+-- What the reader's steps promise: what each gives, as the value of a definition.
 use Rattle.std.specs.Prelude.{ℕ, ◌≡◌, ◌≤◌, List, length, get_or, Option, Some, None, Result, MatchResult, if◌then◌else◌}
 use Rattle.causes.specs.declared.Refusal.{Refusal}
 use Rattle.job_file.specs.File.{Trailer, offsets, no_trailer, are_digits, five_digits, refused, parts_outcome, outcome_of}

@@ -22,6 +22,6 @@ pub record GlassValues (g : Glass) : Type 0 where
   pub four_high : g.four ≤ 99999
   pub stock_high : g.stock ≤ 999
 
--- The law of its id.
-pub allowed_id : (g : Glass) → T (allowed_glass g) → g.id ≤ 9999
-allowed_id g h = let k = simp (and_iff, leb_iff) at h in omega arith
+-- An allowed id is at most 9999.
+pub allowed_glass_id : (g : Glass) → T (allowed_glass g) → g.id ≤ 9999
+allowed_glass_id g h = let k = simp (and_iff, leb_iff) at h in omega arith

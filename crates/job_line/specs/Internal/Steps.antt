@@ -1,4 +1,4 @@
--- What reading at the front of some bytes answers, in the words of the definitions.
+-- What reading at the front of some bytes answers, as a `Found` of the definitions.
 use Rattle.std.specs.Prelude.{ℕ, ◌-◌, List, Option, Some, None, if◌then◌else◌}
 use Rattle.std.specs.Borrow.{Bor}
 use Rattle.job_line.specs.Bytes.{digit0, next, behind, Found, found, nothing}

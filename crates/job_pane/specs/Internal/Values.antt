@@ -26,6 +26,6 @@ pub record PaneValues (p : Pane) : Type 0 where
   pub h_high : p.h ≤ 5000
   pub wind_is : WindValues p.wind
 
--- The law of its id.
-pub allowed_id : (p : Pane) → T (allowed_pane p) → p.id ≤ 9999
-allowed_id p h = let k = simp (and_iff, leb_iff) at h in omega arith
+-- An allowed id is at most 9999.
+pub allowed_pane_id : (p : Pane) → T (allowed_pane p) → p.id ≤ 9999
+allowed_pane_id p h = let k = simp (and_iff, leb_iff) at h in omega arith

@@ -36,8 +36,8 @@ confined t some p = all_to (λ g. not (t.passes p g) || some g) t.glasses
 abbrev pub sheets_of : Task → (ℕ → Bool) → ℕ
 sheets_of t some = sum_to (λ g. if some g then t.sheets g else 0) t.glasses
 
--- A matching that no other beats, and some glasses that show why: the panes that can have none but these are more than their
--- sheets by exactly the panes that are left over. Where none is, there are no such glasses.
+-- A matching that no other beats, and some glasses that show why: the panes that can have none but these outnumber their
+-- sheets by the panes that are left over. Where no pane is, there are no such glasses.
 pub record Greatest (t : Task) (glass_of : ℕ → ℕ) (tight : ℕ → Bool) : Type 0 where
   pub matching : Matching t glass_of
   pub or_none : (p : ℕ) → p < t.panes → glass_of p ≤ t.glasses

@@ -42,8 +42,8 @@ NoGlassTwice before after n =
     (p q : ℕ) → p < n → q < n → is_moved before after p ≡ true → is_moved before after q ≡ true →
     way_of after p ≡ way_of after q → p ≡ q
 
--- A chain of moves, from the glass that it frees to the last, whose spare sheet it takes. Only panes that may leave do. It comes
--- to each glass at most once, and has no more links than there are unseen glasses: document 01, "The placing".
+-- What a chain of moves leaves, from the glass that it frees to the last, whose spare sheet it takes: all other glasses are held as often as
+-- before. Only panes that may leave do, to each glass one at most, and no more than there are unseen glasses: document 01, "The placing".
 pub record Chain (rows : List ℕ) (before after : List (Option ℕ)) (spare seen from last : ℕ) (Leaves : ℕ → Type 0) : Type 0 where
   pub last_unseen : Unseen seen last
   pub last_spare : has spare last ≡ true

@@ -6,7 +6,7 @@ use Rattle.row_placing.specs.Schedule.{Schedule}
 abbrev pub entries_at : List ℕ → List ℕ → List ℕ
 entries_at xs places = map (λ i. get_or xs i 0) places
 
--- The entry at a place that is held, and 0 where none is or a place past the list's end; and those of each of some.
+-- The entry of a list at a place that is held; 0 where none is held, or a place past the list's end. Then the same for a list of places.
 abbrev pub entry_held : List ℕ → Option ℕ → ℕ
 entry_held xs None = 0
 entry_held xs (Some place) = get_or xs place 0

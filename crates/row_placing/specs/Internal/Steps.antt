@@ -20,6 +20,6 @@ abbrev pub confined_ids : List ℕ → List ℕ → ℕ → List ℕ
 confined_ids ids rows tight = list_to (λ p. get_or ids p 0) (confined_to rows tight) (length rows)
 
 -- What the group list is to get where so many panes are placed: nothing if that is all of them, and else those ids from the lowest
--- up, as request 2026-04 has it, each once and without those that no file has.
+-- up, each once and without those above 9999, which no file has.
 abbrev pub group_due : ℕ → List ℕ → List ℕ → ℕ → List ℕ
 group_due placed ids rows tight = if eqb placed (length rows) then [] else rising (confined_ids ids rows tight)
