@@ -21,10 +21,10 @@ use Rattle.placing.proofs.Laws.{counted_of}
 use Rattle.report.specs.Text.{pane_lines, placing_text}
 use Rattle.report.specs.Reported.{TextOfPlacing, Reported}
 use Rattle.bench_examples.specs.Files.{job_j}
-use Rattle.bench_examples.specs.Calls.{job_no_glass, LeftAlone, NoGlass, KeptOfJ, ReportedJ, Calls}
-use Rattle.bench_examples.proofs.Files.{glasses_j, panes_j, panes_none, panes_read, thirteen_bytes, job_read}
+use Rattle.bench_examples.specs.Calls.{job_empty_rack, LeftAlone, EmptyRack, KeptOfJ, ReportedJ, Calls}
+use Rattle.bench_examples.proofs.Files.{glasses_j, panes_j, panes_empty, panes_read, thirteen_bytes, job_read}
 use Rattle.bench_examples.proofs.JobJ.{schedule_j}
-use Rattle.bench_examples.proofs.NoGlass.{schedule_none, only_zeros, none_placed, only_group}
+use Rattle.bench_examples.proofs.EmptyRack.{schedule_empty, only_zeros, none_placed, only_group}
 use Rattle.bench_examples.proofs.Examples.{result_is, glazing_j}
 use Rattle.bench_examples.proofs.Texts.{text_j}
 
@@ -69,18 +69,18 @@ reported_j before after count r =
     }
 
 glazing_none :
-    (ids group : List ℕ) (placed : ℕ) → Glazing schedule_none ids group placed → (placed ≡ 0) × (ids ≡ 0 ∷ 0 ∷ []) × (group ≡ 1 ∷ 2 ∷ [])
+    (ids group : List ℕ) (placed : ℕ) → Glazing schedule_empty ids group placed → (placed ≡ 0) × (ids ≡ 0 ∷ 0 ∷ []) × (group ≡ 1 ∷ 2 ∷ [])
 glazing_none ids group placed g =
     let is = only_zeros ids g.placing in
     let none : placed ≡ 0 = g.placed_is ∙ ap nonzero is ∙ none_placed in
     (none, is, only_group group (g.if_less (λ all. omega (arith, none, all))) (g.whole_shortage ∙ rw none) g.rises)
 
-no_glass : (c : Call) → PlacedCall schedule_none c → NoGlass c
-no_glass c k =
+empty_rack : (c : Call) → PlacedCall schedule_empty c → EmptyRack c
+empty_rack c k =
     let g = k.glazed in
     let is = glazing_none g.ids g.group_ids k.counts.placed g.glazing in
     record {
-      counted = result_is schedule_none c k 2 0 (1 ∷ 2 ∷ []) refl is.0 is.2;
+      counted = result_is schedule_empty c k 2 0 (1 ∷ 2 ∷ []) refl is.0 is.2;
       answers = front_is _ _ _ is.1 g.answers_written.front;
       later_answers = later_is _ _ _ _ is.1 g.answers_written.later_kept;
       group = front_is _ _ _ is.2 g.group_written.front;
@@ -88,7 +88,7 @@ no_glass c k =
     }
 
 text_none :
-    (text : List ℕ) → TextOfPlacing [] panes_none text →
+    (text : List ℕ) → TextOfPlacing [] panes_empty text →
     text ≡ bytes_of "2 0\n" ++ bytes_of "1 0\n" ++ bytes_of "0 2\n" ++ bytes_of "short 1 2\n"
 unfolding placing_text pane_lines written_number written_numbers written_digits digit_count
 text_none text t = let is = glazing_none t.answers t.group t.placed t.glazing in t.is_text ∙ rw (is.0, is.1, is.2)
@@ -100,6 +100,6 @@ calls = record {
   short_group = λ c l p. short_list (outcome_of job_j) c job_read (rw l (or-true (ltb (length c.answer_list.before) 2))) p;
   j = λ c l k p. kept_of_j c (counted_of (outcome_of job_j) glasses_j panes_j c job_read l k p);
   j_reported = reported_j;
-  no_glass = λ c l k p. no_glass c (counted_of (outcome_of job_no_glass) [] panes_none c panes_read l k p);
-  no_glass_text = λ text t. text_none text (rw panes_read at t);
+  empty_rack = λ c l k p. empty_rack c (counted_of (outcome_of job_empty_rack) [] panes_empty c panes_read l k p);
+  empty_rack_text = λ text t. text_none text (rw panes_read at t);
 }

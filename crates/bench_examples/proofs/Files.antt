@@ -19,7 +19,7 @@ use Rattle.causes.specs.Answer.{gives}
 use Rattle.job_file.specs.File.{trailer, Outcome, accepted, refused, parts_outcome, outcome_of}
 use Rattle.job_file.specs.CheckAnswer.{file_counts, check_answer}
 use Rattle.bench_examples.specs.Files.{pane3000, pane3001, pane_c, glass8, glass10, job_h, job_j}
-use Rattle.bench_examples.specs.Calls.{job_no_glass}
+use Rattle.bench_examples.specs.Calls.{job_empty_rack}
 
 -- To compute an outcome, every definition of the reading is opened.
 unfoldable pub outcome : List ℕ → Outcome
@@ -66,12 +66,12 @@ pub job_answer : check_answer (outcome_of job_j) ≡ gives (file_counts 2 2)
 job_answer = ap check_answer job_read
 
 -- Two panes and no glass.
-abbrev pub panes_none : List Pane
-panes_none =
+abbrev pub panes_empty : List Pane
+panes_empty =
     record { id = 2; edges = 4; angle = 30; awning = 0; top = 3000; w = 900; h = 1500; wind = ByPressure 60 95 }
     ∷ record { id = 1; edges = 4; angle = 30; awning = 0; top = 3000; w = 500; h = 5000; wind = ByClass 10 2 }
     ∷ []
 
-pub panes_read : outcome_of job_no_glass ≡ accepted [] panes_none
+pub panes_read : outcome_of job_empty_rack ≡ accepted [] panes_empty
 unfolding outcome
 panes_read = refl

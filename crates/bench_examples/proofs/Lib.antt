@@ -8,7 +8,7 @@ pub mod Examples
 -- What `canopy` prints of them.
 pub mod Texts
 -- What calls leave that the examples don't show, and for it two panes without a glass.
-pub mod NoGlass
+pub mod EmptyRack
 pub mod Calls
 -- Figures and cases that tell a rule from another.
 pub mod Cases

@@ -10,8 +10,8 @@ use Rattle.bench_examples.specs.Examples.{counts}
 use Rattle.bench_examples.specs.Files.{job_j}
 
 -- Two panes, one by pressures and one by class, with ids that fall, and no glass at all.
-abbrev pub job_no_glass : List ℕ
-job_no_glass =
+abbrev pub job_empty_rack : List ℕ
+job_empty_rack =
     bytes_of "P 2 4 30 0 3000 900 1500 60 95\n"
     ++ bytes_of "Q 1 4 30 0 3000 500 5000 10 2\n"
     ++ bytes_of "T 00000 00000\n"
@@ -23,7 +23,7 @@ pub record LeftAlone (number : ℕ) (c : Call) : Type 0 where
   pub group_kept : c.group_list.after ≡ c.group_list.before
 
 -- Of that job both panes are left over, and the group has both, from the lowest up. Later entries are as they were.
-pub record NoGlass (c : Call) : Type 0 where
+pub record EmptyRack (c : Call) : Type 0 where
   pub counted : c.result ≡ gives (counts 2 0 2)
   pub answers : take 2 c.answer_list.after ≡ 0 ∷ 0 ∷ []
   pub later_answers : drop 2 c.answer_list.after ≡ drop 2 c.answer_list.before
@@ -50,8 +50,8 @@ pub record Calls : Type 0 where
   -- and with lists that are long enough
   pub j : (c : Call) → 2 ≤ length c.answer_list.before → 2 ≤ length c.group_list.before → Promised (outcome_of job_j) c → KeptOfJ c
   pub j_reported : (before after : List ℕ) (count : ℕ) → Reported (outcome_of job_j) before after count → ReportedJ before after count
-  pub no_glass :
-      (c : Call) → 2 ≤ length c.answer_list.before → 2 ≤ length c.group_list.before → Promised (outcome_of job_no_glass) c → NoGlass c
-  pub no_glass_text :
-      (text : List ℕ) → TextOf (outcome_of job_no_glass) text →
+  pub empty_rack :
+      (c : Call) → 2 ≤ length c.answer_list.before → 2 ≤ length c.group_list.before → Promised (outcome_of job_empty_rack) c → EmptyRack c
+  pub empty_rack_text :
+      (text : List ℕ) → TextOf (outcome_of job_empty_rack) text →
       text ≡ bytes_of "2 0\n" ++ bytes_of "1 0\n" ++ bytes_of "0 2\n" ++ bytes_of "short 1 2\n"

@@ -11,16 +11,16 @@ use Rattle.row_placing.specs.Schedule.{Schedule}
 use Rattle.row_placing.specs.Placing.{nonzero, PassingId, Placing}
 use Rattle.row_placing.specs.ShortGroup.{PaneId, lacking, ShortGroup}
 use Rattle.placing.specs.FileSchedule.{schedule_of}
-use Rattle.bench_examples.proofs.Files.{panes_none}
+use Rattle.bench_examples.proofs.Files.{panes_empty}
 
-abbrev pub schedule_none : Schedule
-schedule_none = schedule_of [] [] panes_none
+abbrev pub schedule_empty : Schedule
+schedule_empty = schedule_of [] [] panes_empty
 
-no_id : (i x : ℕ) → (x ≡ 0) ⊎ PassingId schedule_none i x → x ≡ 0
+no_id : (i x : ℕ) → (x ≡ 0) ⊎ PassingId schedule_empty i x → x ≡ 0
 no_id i x (inl none) = none
 no_id i x (inr passing) = absurd (omega (arith, passing.within))
 
-pub only_zeros : (ids : List ℕ) → Placing schedule_none ids → ids ≡ 0 ∷ 0 ∷ []
+pub only_zeros : (ids : List ℕ) → Placing schedule_empty ids → ids ≡ 0 ∷ 0 ∷ []
 only_zeros [] p = absurd (omega (arith, p.one_each))
 only_zeros (x ∷ []) p = absurd (omega (arith, p.one_each))
 only_zeros (x ∷ y ∷ z ∷ rest) p = absurd (omega (arith, p.one_each))
@@ -30,10 +30,10 @@ pub none_placed : nonzero (0 ∷ 0 ∷ []) ≡ 0
 unfolding nonzero
 none_placed = refl
 
-one_or_two : (id : ℕ) → PaneId schedule_none id → (id ≡ 1) ⊎ (id ≡ 2)
+one_or_two : (id : ℕ) → PaneId schedule_empty id → (id ≡ 1) ⊎ (id ≡ 2)
 one_or_two id p = go p.place p.within p.is_id
   where
-    go : (j : ℕ) → j < 2 → get_or schedule_none.pane_ids j 0 ≡ id → (id ≡ 1) ⊎ (id ≡ 2)
+    go : (j : ℕ) → j < 2 → get_or schedule_empty.pane_ids j 0 ≡ id → (id ≡ 1) ⊎ (id ≡ 2)
     go zero l e = inr (sym e)
     go (suc zero) l e = inl (sym e)
     go (suc (suc j)) l e = absurd (omega arith)
@@ -45,7 +45,7 @@ both x y less (inr e) (inl f) = absurd (omega (arith, e, f))
 both x y less (inr e) (inr f) = absurd (omega (arith, e, f))
 
 pub only_group :
-    (group : List ℕ) → ShortGroup schedule_none group → lacking schedule_none group ≡ 2 →
+    (group : List ℕ) → ShortGroup schedule_empty group → lacking schedule_empty group ≡ 2 →
     ((k : ℕ) → k + 1 < length group → get_or group k 0 < get_or group (k + 1) 0) → group ≡ 1 ∷ 2 ∷ []
 only_group [] s two r = absurd (omega (arith, two))
 only_group (x ∷ []) s two r = absurd (omega (arith, two))
