@@ -8,8 +8,9 @@ use std::io;
 
 // Where a read of standard input fails, the file is what was read before.
 fn main(rt: HostRuntime) -> io::Result<()> {
-    let file = job_tool::read_input(&rt);
-    let mut text = [0u8; 4096];
-    let count = report(&file, &mut text);
-    rt.write_all(&text[..count])
+    job_tool::with_input(&rt, |file| {
+        let mut text = [0u8; 4096];
+        let count = report(file, &mut text);
+        rt.write_all(&text[..count])
+    })
 }

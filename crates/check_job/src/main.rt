@@ -16,7 +16,7 @@ use std::io;
 fn main(rt: HostRuntime) -> io::Result<()> {
     let count = job_tool::argument_count(&rt);
     if count < 2 {
-        return answer_for(&rt, &job_tool::read_input(&rt), true);
+        return job_tool::with_input(&rt, |file| answer_for(&rt, file, true));
     }
     for i in 1..count {
         job_tool::with_file(&rt, i, |file| {

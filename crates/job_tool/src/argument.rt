@@ -1,9 +1,9 @@
 // The file that an argument names: specs/Internal/Leaves.antt.
 ghost use Rattle.std.specs.Prelude.{◌≡◌, ◌≤◌, ℕ, List, IfErr, IfOk, IfSome, Ok, length};
 ghost use Rattle.std.specs.Fn.{FnOnceReturnsAt};
-ghost use Rattle.job_tool.specs.Internal.Leaves.{Leaves};
+ghost use Rattle.job_tool.specs.Internal.Leaves.{Leaves, LeavesRoom};
 
-use crate::input::{JobBytes, read_full};
+use crate::input::{JobBytes, bytes_of, front, read_full};
 use crate::words::{StandardError, say_failure};
 use std::env::{Env, FillError};
 use std::io::{Error, ErrorKind};
@@ -52,11 +52,11 @@ pub fn with_file<R: Env + Files + Print + StandardError, T, F: FnOnce(&[u8]) -> 
     ensures { IfOk result (λ given. IfSome given (λ t.
         (file : List ℕ) × (length file ≤ 65536) × FnOnceReturnsAt F.FnOnce step file (Ok t))) }
 {
-    let mut file = JobBytes::new();
-    match read_argument(rt, i, &mut file) {
-        Ok(()) => Ok(Some(step(&file)?)),
+    let mut room = [0u8; 65536];
+    match read_into_room(rt, i, &mut room) {
+        Ok(length) => Ok(Some(step(front(&room, length))?)),
         Err(unread) => {
-            write_unread(rt, i, unread)?;
+            write_unread(rt, i, Err(unread))?;
             Ok(None)
         }
     }
@@ -71,8 +71,10 @@ pub fn read_argument<R: Env + Files + StandardError>(
 ) -> Result<(), Unread>
     ensures { Leaves result file.old.items file.new.items }
 {
-    let mut name = [0u8; 4096];
-    read_named(rt, argument(rt, i, &mut name), file)
+    let mut room = [0u8; 65536];
+    let length = read_into_room(rt, i, &mut room)?;
+    *file = bytes_of(front(&room, length));
+    Ok(())
 }
 
 // Writes argument `i` on standard output.
@@ -87,8 +89,11 @@ pub fn write_name<R: Env + Print>(rt: &R, i: usize) -> io::Result<()> {
     print!(rt; ": ")
 }
 
-// The line of a file that was not opened or not read.
-pub fn write_unread<R: Env + Print>(rt: &R, i: usize, unread: Unread) -> io::Result<()> {
+// The line of a file that was not opened or not read; nothing of one that was read.
+pub fn write_unread<R: Env + Print>(rt: &R, i: usize, read: Result<(), Unread>) -> io::Result<()> {
+    let Err(unread) = read else {
+        return Ok(());
+    };
     write_name(rt, i)?;
     println!(rt; "{unread}")
 }
@@ -96,7 +101,9 @@ pub fn write_unread<R: Env + Print>(rt: &R, i: usize, unread: Unread) -> io::Res
 // The bytes of argument `i`, in a buffer that is lent, since they need not be text, as the library's list of arguments asks. Of an
 // argument that is too long they are the beginning, which the host's `arg` leaves there; that is too long to be opened as well, so no
 // other file is taken for it.
-fn argument<'a>(rt: &impl Env, i: usize, text: &'a mut [u8; 4096]) -> &'a [u8] {
+fn argument<'a>(rt: &impl Env, i: usize, text: &'a mut [u8; 4096]) -> &'a [u8]
+    ensures { length result.now ≤ 4096 }
+{
     match rt.arg(i, text) {
         Ok(length) => &text[..length],
         Err(FillError::TooLong) => text,
@@ -104,16 +111,30 @@ fn argument<'a>(rt: &impl Env, i: usize, text: &'a mut [u8; 4096]) -> &'a [u8] {
     }
 }
 
+// Reads the file that argument `i` names to the front of `room`, and gives how many bytes it has.
+fn read_into_room<R: Env + Files + StandardError>(
+    rt: &R,
+    i: usize,
+    room: &mut [u8; 65536],
+) -> Result<usize, Unread>
+    ensures { LeavesRoom result room.old room.new }
+{
+    let mut name = [0u8; 4096];
+    read_named(rt, argument(rt, i, &mut name), room)
+}
+
 // Reads the file of a name. Where a read of it fails, as where the name is a folder's, it is not read.
 fn read_named<R: Files + StandardError>(
     rt: &R,
     name: &[u8],
-    file: &mut JobBytes,
-) -> Result<(), Unread>
-    ensures { Leaves result file.old.items file.new.items }
+    room: &mut [u8; 65536],
+) -> Result<usize, Unread>
+    ensures { LeavesRoom result room.old room.new }
 {
-    let opened = or_said(rt, name, Unread::NotOpened, open_named(rt, name))?;
-    or_said(rt, name, Unread::NotRead, read_full(opened, file))
+    let mut opened = or_said(rt, name, Unread::NotOpened, open_named(rt, name))?;
+    let (length, end) = read_full(&mut opened, room);
+    or_said(rt, name, Unread::NotRead, end)?;
+    Ok(length)
 }
 
 // What a step with the file of this name gave. Where it failed, that is said, and the file is `unread`.

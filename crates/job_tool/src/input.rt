@@ -1,5 +1,6 @@
 // Reading a file into memory. Which bytes a read of the system gives, no contract can say.
-ghost use Rattle.std.specs.Prelude.{◌≤◌, length};
+ghost use Rattle.std.specs.Prelude.{◌≡◌, ◌≤◌, ℕ, List, length};
+ghost use Rattle.std.specs.Fn.{FnOnceReturnsAt};
 
 use arrayvec::ArrayVec;
 use std::io;
@@ -9,23 +10,57 @@ use std::io::Read;
 // may have: a file that fills it is too long, whatever follows.
 pub type JobBytes = ArrayVec<u8, 65536>;
 
-// What standard input gives. Where a read fails, that is what was read before.
+// What `step` gives of what standard input gives, of which there is at most as much as there is room for. Where a read fails, that is what
+// was read before.
+pub fn with_input<T, F: FnOnce(&[u8]) -> T>(rt: &impl Input, step: F) -> T
+    requires { F.IsAlwaysCallable step }
+    ensures { (file : List ℕ) × (length file ≤ 65536) × FnOnceReturnsAt F.FnOnce step file result }
+{
+    let mut room = [0u8; 65536];
+    let (length, _) = read_full(&mut rt.reader(), &mut room);
+    step(front(&room, length))
+}
+
+// What standard input gives, to keep. Where a read fails, that is what was read before.
 pub fn read_input(rt: &impl Input) -> JobBytes
     ensures { length result.items ≤ 65536 }
 {
-    let mut file = JobBytes::new();
-    let _ = read_full(rt.reader(), &mut file);
-    file
+    let mut room = [0u8; 65536];
+    let (length, _) = read_full(&mut rt.reader(), &mut room);
+    bytes_of(front(&room, length))
 }
 
-// Reads until the file is full, the input ends or a read fails. What was read before a failure is kept. The bound is a clause here, in
-// `read_input` and in `Leaves`: tried without it here, the proof of the other two didn't close, since of the items alone no type says it.
-pub(crate) fn read_full(input: impl Read + Drop, file: &mut JobBytes) -> io::Result<()>
-    ensures { length file.new.items ≤ 65536 }
+// The bytes that were read to the front of a room.
+pub(crate) fn front(room: &[u8; 65536], count: usize) -> &[u8]
+    requires { count ≤ 65536 }
+    ensures { length result.now ≤ 65536 }
 {
-    file.clear();
-    let end = io::copy(&mut input.take(65536), file);
-    prove!(file.len() <= 65536);
-    end?;
-    Ok(())
+    &room[..count]
+}
+
+// The same in a list of their own.
+pub(crate) fn bytes_of(read: &[u8]) -> JobBytes
+    requires { length read.now ≤ 65536 }
+    ensures { result.items ≡ read.now }
+{
+    let mut bytes = JobBytes::new();
+    let _ = bytes.try_extend_from_slice(read);
+    bytes
+}
+
+// Reads until the room is full, the input ends or a read fails. Gives how many bytes stand at its front, and the failure: what was read
+// before one is kept. Each read is lent all the room that is left, since an input that gives whole messages cuts off what does not fit, and
+// a read that is interrupted has failed: `io::copy` would read in pieces, and again for as long as reads are interrupted.
+pub(crate) fn read_full(input: &mut impl Read, room: &mut [u8]) -> (usize, io::Result<()>)
+    ensures { result.0 ≤ length room.new }
+{
+    let mut done = 0;
+    while done < room.len() {
+        match input.read(&mut room[done..]) {
+            Ok(0) => break,
+            Ok(count) => done += count,
+            Err(error) => return (done, Err(error)),
+        }
+    }
+    (done, Ok(()))
 }

@@ -9,5 +9,5 @@ mod words;
 pub use argument::{
     Unread, argument_count, read_argument, with_file, write_argument, write_name, write_unread,
 };
-pub use input::{JobBytes, read_input};
+pub use input::{JobBytes, read_input, with_input};
 pub use words::{StandardError, write_refusal};

@@ -9,3 +9,9 @@ abbrev pub Leaves : Result (Unit {0}) Unread → List ℕ → List ℕ → Type 
 Leaves (Ok done) before after = length after ≤ 65536
 Leaves (Err NotOpened) before after = after ≡ before
 Leaves (Err NotRead) before after = Unit
+
+-- The same of the room that a file is read into, of 65,536 bytes, where the answer is how many bytes of it are the file's.
+abbrev pub LeavesRoom : Result ℕ Unread → List ℕ → List ℕ → Type 0
+LeavesRoom (Ok count) before after = count ≤ 65536
+LeavesRoom (Err NotOpened) before after = after ≡ before
+LeavesRoom (Err NotRead) before after = Unit
