@@ -10,7 +10,7 @@ mod wind;
 mod words;
 
 use job_file::FileCounts;
-use job_tool::{write_name, write_refusal};
+use job_tool::{Pieces, StandardError, write_name, write_refusal};
 use std::io;
 
 fn main(rt: HostRuntime) -> io::Result<()> {
@@ -28,9 +28,9 @@ fn main(rt: HostRuntime) -> io::Result<()> {
 }
 
 // The line `accepted GLASSES PANES` or `refused NUMBER OFFSET`; and of a single file that is refused, why and on which line.
-fn answer_for<R: Print + Eprint>(rt: &R, file: &[u8], is_single: bool) -> io::Result<()> {
+fn answer_for<R: Print + StandardError>(rt: &R, file: &[u8], is_single: bool) -> io::Result<()> {
     match job_file::check(file) {
-        Ok(FileCounts { glasses, panes }) => println!(rt; "accepted {glasses} {panes}"),
+        Ok(FileCounts { glasses, panes }) => println!(Pieces { rt }; "accepted {glasses} {panes}"),
         Err(refusal) => {
             write_refusal(rt, refusal)?;
             if is_single {

@@ -2,12 +2,15 @@
 use crate::place::line_number;
 use crate::wind::line_fault;
 use causes::{Cause, Refusal};
+use job_tool::{Pieces, StandardError};
 
-pub(crate) fn explain(rt: &impl Eprint, file: &[u8], refusal: Refusal) {
+pub(crate) fn explain(rt: &impl StandardError, file: &[u8], refusal: Refusal) {
     let Refusal { cause, offset } = refusal;
     let line = line_number(file, offset);
     let number = u32::from(cause);
-    let _ = eprint!(rt; "line {line}, byte {offset} (counted from 0): cause {number}, {cause}");
+    let _ = eprint!(Pieces { rt };
+        "line {line}, byte {offset} (counted from 0): cause {number}, {cause}"
+    );
     match cause {
         Cause::NumberValue => {
             if let Some(fault) = line_fault(file, offset) {

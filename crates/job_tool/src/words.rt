@@ -1,5 +1,6 @@
 // What the programs write: lines on standard output, and words for people on standard error. Words that can't be written there are
 // lost, and nothing else is.
+use crate::pieces::Pieces;
 use arrayvec::ArrayString;
 use causes::Refusal;
 use std::fmt::Write;
@@ -10,7 +11,7 @@ use std::io::Error;
 pub fn write_refusal(rt: &impl Print, refusal: Refusal) -> io::Result<()> {
     let number = u32::from(refusal.cause);
     let offset = refusal.offset;
-    println!(rt; "refused {number} {offset}")
+    println!(Pieces { rt }; "refused {number} {offset}")
 }
 
 // Standard error, which takes bytes that need not be text, as a name of a file may be none.
@@ -30,7 +31,7 @@ pub(crate) fn say_failure(rt: &impl StandardError, name: &[u8], error: Error) {
     let _ = write!(text, "{error}");
     let words = without_number(text.as_str());
     let _ = rt.write_error(name);
-    let _ = eprintln!(rt; ": {words}");
+    let _ = eprintln!(Pieces { rt }; ": {words}");
 }
 
 // What stands before ` (os error `.

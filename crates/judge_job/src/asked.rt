@@ -3,7 +3,7 @@ use crate::arguments::{id_of, is_id};
 use crate::words::explain;
 use causes::Refusal;
 use clauses::Verdict;
-use job_tool::{write_argument, write_name, write_refusal};
+use job_tool::{Pieces, StandardError, write_argument, write_name, write_refusal};
 use std::env::Env;
 use std::io;
 
@@ -16,7 +16,7 @@ pub(crate) struct Asked<'a, R> {
     pub(crate) count: usize,
 }
 
-impl<R: Env + Print + Eprint> Asked<'_, R> {
+impl<R: Env + Print + StandardError> Asked<'_, R> {
     // Answers for the ids behind the name, or, where there are none, for all that the file has.
     pub(crate) fn answer(&self) -> io::Result<()> {
         if is_id(self.rt, self.name.saturating_add(1)) {
@@ -82,10 +82,10 @@ impl<R: Env + Print + Eprint> Asked<'_, R> {
     ) -> io::Result<()> {
         let rt = self.rt;
         write_name(rt, self.name)?;
-        print!(rt; "{pane} {glass} ")?;
+        print!(Pieces { rt }; "{pane} {glass} ")?;
         match answer {
             Ok(Verdict::Passes) => println!(rt; "passes"),
-            Ok(Verdict::Fails(clause)) => println!(rt; "fails {clause}"),
+            Ok(Verdict::Fails(clause)) => println!(Pieces { rt }; "fails {clause}"),
             Err(refusal) => write_refusal(rt, refusal),
         }
     }

@@ -1,10 +1,11 @@
 // What is said to people, on standard error: an answer in plain words, with the number and the name of the clause.
 use causes::{Cause, Refusal};
 use clauses::Verdict;
+use job_tool::{Pieces, StandardError};
 use std::fmt;
 
 // Why the glass may not be used; nothing where it may.
-pub(crate) fn explain(rt: &impl Eprint, answer: Result<Verdict, Refusal>) {
+pub(crate) fn explain(rt: &impl StandardError, answer: Result<Verdict, Refusal>) {
     match answer {
         Ok(Verdict::Passes) => {}
         Ok(Verdict::Fails(clause)) => explain_clause(rt, clause),
@@ -12,10 +13,10 @@ pub(crate) fn explain(rt: &impl Eprint, answer: Result<Verdict, Refusal>) {
     }
 }
 
-fn explain_refusal(rt: &impl Eprint, cause: Cause) {
+fn explain_refusal(rt: &impl StandardError, cause: Cause) {
     let number = u32::from(cause);
     let _ = match cause {
-        Cause::NoPane | Cause::NoGlass => eprintln!(rt; "number {number}: {cause}"),
+        Cause::NoPane | Cause::NoGlass => eprintln!(Pieces { rt }; "number {number}: {cause}"),
         _ => eprintln!(rt;
             "the file is refused, so nothing of it is judged; check_job says what is wrong with it and where"
         ),
@@ -23,13 +24,13 @@ fn explain_refusal(rt: &impl Eprint, cause: Cause) {
 }
 
 // The clause is a number, since `Verdict::Fails(u32)` is the form that document 01 names.
-fn explain_clause(rt: &impl Eprint, clause: u32) {
+fn explain_clause(rt: &impl StandardError, clause: u32) {
     let _ = match clause {
         1 => eprintln!(rt;
             "clause 1, kind: the pane's highest part is 3000 mm or more above the floor, where toughened glass must be laminated; take a laminated glass"
         ),
-        2 => eprintln!(rt;
-            "clause 2, size: upright or turned, each side of the sheet must exceed the pane's sight size by two edge covers or more ({}, {}, {}, {}), and this sheet does not; take a larger sheet, or a thinner glass",
+        2 => eprint!(Pieces { rt };
+            "clause 2, size: upright or turned, each side of the sheet must exceed the pane's sight size by two edge covers or more ({}, {}, {}, {}), and this sheet does not; take a larger sheet, or a thinner glass\n",
             Excess(6),
             Excess(8),
             Excess(10),

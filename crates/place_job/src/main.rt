@@ -13,7 +13,7 @@ mod lists;
 mod rules;
 
 use job::Job;
-use job_tool::StandardError;
+use job_tool::{Pieces, StandardError};
 use rules::{Outcome, Rule};
 use std::io;
 use std::rt::{Env, Files};
@@ -35,7 +35,7 @@ fn main(rt: HostRuntime) -> io::Result<()> {
             }
         }
     }
-    println!(rt; "{jobs} jobs, {wrong} wrong")
+    println!(Pieces { rt: &rt }; "{jobs} jobs, {wrong} wrong")
 }
 
 // Tries the file that argument `i` names and writes its line. None where the file was not opened or not read.
@@ -49,9 +49,12 @@ fn try_argument<R: Env + Files + Print + StandardError>(
         let tried = calls::try_file(&job);
         match tried {
             Ok(Outcome::Full) => println!(rt; "full")?,
-            Ok(Outcome::Short(left_over)) => println!(rt; "short by {left_over}")?,
+            Ok(Outcome::Short(left_over)) => println!(Pieces { rt }; "short by {left_over}")?,
             Ok(Outcome::Refused(refusal)) => job_tool::write_refusal(rt, refusal)?,
-            Err(rule) => println!(rt; "wrong: {rule}")?,
+            Err(rule) => {
+                print!(rt; "wrong: ")?;
+                println!(rt; "{rule}")?;
+            }
         }
         Ok(tried)
     })
