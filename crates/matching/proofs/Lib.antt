@@ -2,6 +2,7 @@
 pub mod Cover
 -- The search: one law for each way through it.
 pub mod Ways
+pub mod Blocks
 pub mod Growth
 pub mod Choices
 pub mod Links

@@ -63,7 +63,7 @@ module _ (before mid : List (Option ℕ)) (pane glass n : ℕ) where
       )
 
   -- No pane that the chain moved has the glass.
-  module _ (long : pane < length mid) (twice : NoGlassTwice before mid n)
+  module _ (below : glass < 64) (long : pane < length mid) (twice : NoGlassTwice before mid n)
       (fresh : (p : ℕ) → p < n → is_moved before mid p ≡ true → way_of mid p ≡ glass → ⊥) where
     pub twice_more : NoGlassTwice before (set mid pane (Some glass)) n
     twice_more p q l k moved moved' same = go (cases_eq p pane) (cases_eq q pane)
@@ -72,7 +72,7 @@ module _ (before mid : List (Option ℕ)) (pane glass n : ℕ) where
         there p other = way_there mid pane p glass other
 
         here : (p : ℕ) → p ≡ pane → way_of (set mid pane (Some glass)) p ≡ glass
-        here p e = rw e (way_here mid pane glass long)
+        here p e = rw e (way_here mid pane glass below long)
 
         go : (p ≡ pane) ⊎ (p ≡ pane → ⊥) → (q ≡ pane) ⊎ (q ≡ pane → ⊥) → p ≡ q
         go (inl e) (inl f) = e ∙ sym f

@@ -27,14 +27,15 @@ use Rattle.matching.proofs.Links.{moved_unseen, none_moved, few_none, none_twice
 
 -- The panes that hold each glass, after one pane was given another.
 holding_set :
-    (rows : List ℕ) (held : List (Option ℕ)) (pane glass : ℕ) → length held ≡ length rows → pane < length rows → (g : ℕ) →
+    (rows : List ℕ) (held : List (Option ℕ)) (pane glass : ℕ) → glass < 64 → length held ≡ length rows → pane < length rows →
+    (g : ℕ) →
     holding rows (set held pane (Some glass)) g + one (eqb (way_of held pane) g)
     ≡ holding rows held g + one (eqb glass g)
-holding_set rows held pane glass long l g =
+holding_set rows held pane glass below long l g =
     sum_at (λ p. one (eqb (way_of (set held pane (Some glass)) p) g)) (λ p. one (eqb (way_of held p) g))
     (length rows) pane l
     (λ p k other. ap (λ (x : ℕ). one (eqb x g)) (way_there held pane p glass other))
-    ∙ ap (λ (x : ℕ). holding rows held g + one (eqb x g)) (way_here held pane glass (omega arith))
+    ∙ ap (λ (x : ℕ). holding rows held g + one (eqb x g)) (way_here held pane glass below (omega arith))
 
 module _ (rows : List ℕ) (before : List (Option ℕ)) (pane spare seen : ℕ) where
   -- A spare sheet of an unseen glass is taken.
@@ -44,17 +45,17 @@ module _ (rows : List ℕ) (before : List (Option ℕ)) (pane spare seen : ℕ) 
       Served rows before (set before pane (Some glass)) pane spare seen glass
   serve_spare glass s unseen at_hand passing =
       let here : way_of (set before pane (Some glass)) pane ≡ glass =
-      way_here before pane glass (omega (arith, s.same_length, s.of_rows)) in
+      way_here before pane glass unseen.below (omega (arith, s.same_length, s.of_rows)) in
       let has_unseen = subst⁻¹ (Unseen seen) here unseen in
       let has_passing = subst⁻¹ (λ (g : ℕ). has (get_or rows pane 0) g ≡ true) here passing in
       record {
         chain = record {
           last_unseen = unseen;
           last_spare = at_hand;
-          counts = holding_set rows before pane glass s.same_length s.of_rows;
+          counts = holding_set rows before pane glass unseen.below s.same_length s.of_rows;
           each = λ p l. go has_unseen has_passing p (cases_eq p pane);
           no_glass_twice =
-              twice_more before before pane glass (length rows) (omega (arith, s.same_length, s.of_rows))
+              twice_more before before pane glass (length rows) unseen.below (omega (arith, s.same_length, s.of_rows))
               (none_twice before (length rows))
               (λ p l moved. absurd (none_moved before p moved));
           few = omega (
@@ -110,7 +111,7 @@ module _ (rows : List ℕ) (before : List (Option ℕ)) (pane spare seen : ℕ) 
           has (get_or rows pane 0) glass ≡ true → Served rows before (set mid pane (Some glass)) pane spare seen last
       serve_moved passing =
           let here : way_of (set mid pane (Some glass)) pane ≡ glass =
-          way_here mid pane glass (omega (arith, long, s.same_length, s.of_rows)) in
+          way_here mid pane glass unmarked.below (omega (arith, long, s.same_length, s.of_rows)) in
           let has_unseen = subst⁻¹ (Unseen seen) here glass_unseen in
           let has_passing = subst⁻¹ (λ (g : ℕ). has (get_or rows pane 0) g ≡ true) here passing in
           record {
@@ -118,12 +119,12 @@ module _ (rows : List ℕ) (before : List (Option ℕ)) (pane spare seen : ℕ) 
               last_unseen = unseen_back seen with_glass last wider freed.last_unseen;
               last_spare = freed.last_spare;
               counts = λ g.
-                  let given = holding_set rows mid pane glass (long ∙ s.same_length) s.of_rows g in
+                  let given = holding_set rows mid pane glass unmarked.below (long ∙ s.same_length) s.of_rows g in
                   let given' = rw pane_stays at given in
                   omega (arith, given', freed.counts g);
               each = λ p l. go has_unseen has_passing p (cases_eq p pane) (freed.each p l);
               no_glass_twice =
-                  twice_more before mid pane glass (length rows) (omega (arith, long, s.same_length, s.of_rows))
+                  twice_more before mid pane glass (length rows) unmarked.below (omega (arith, long, s.same_length, s.of_rows))
                   freed.no_glass_twice new_glass;
               few = omega (
                 arith,

@@ -5,7 +5,7 @@
 --     standing_first     before the first pane
 --     standing_last      after the last pane the placing is a greatest one
 use Prim.Native.Nat.{ℕ, ◌+◌, ◌≤◌, ◌<◌}
-use mathlib.Core.Path.{◌≡◌, refl, ap}
+use mathlib.Core.Path.{◌≡◌, refl, ap, ◌∙◌}
 use mathlib.Core.Logic.{◌⊎◌, inl, inr}
 use mathlib.Core.Bool.{true}
 use mathlib.Core.List.{List}
@@ -47,24 +47,24 @@ pub record Standing (rows sheets : List ℕ) (held : List (Option ℕ)) (left : 
   pub left_over : (p : ℕ) → p < next → p < length rows → way_of held p ≡ 64 → Within (get_or rows p 0) tight
   pub none_tight : ((p : ℕ) → p < next → p < length rows → way_of held p < 64) → tight ≡ 0
 
--- Before the first pane no pane holds a glass.
-module _ (rows : List ℕ) where
+-- Before the first pane every entry is one that stands for no glass, and so no pane holds one.
+module _ (rows : List ℕ) (entry : Option ℕ) (is_none : number_held entry ≡ 64) where
   abbrev nothing_held : List (Option ℕ)
-  nothing_held = replicate (length rows) None
+  nothing_held = replicate (length rows) entry
 
   none : (p : ℕ) → p < length rows → way_of nothing_held p ≡ 64
-  none p l = ap number_held (get_or-replicate (length rows) p None None l)
+  none p l = ap number_held (get_or-replicate (length rows) p entry None l) ∙ is_none
 
-  none_held : (g : ℕ) → g < 64 → holding rows nothing_held g ≡ 0
-  none_held g l =
+  none_holds : (g : ℕ) → g < 64 → holding rows nothing_held g ≡ 0
+  none_holds g l =
       sum_zero (λ p. one (eqb (way_of nothing_held p) g)) (length rows)
       (λ p k. rw (none p k, ne_eqb 64 g (λ e. omega (arith, e))))
 
   pub standing_first : (sheets : List ℕ) → length sheets ≡ 64 → Standing rows sheets nothing_held sheets 0 0
   standing_first sheets all = record {
-    same_length = length-replicate (length rows) None;
+    same_length = length-replicate (length rows) entry;
     all_glasses = all;
-    counted = λ g l. omega (arith, none_held g l);
+    counted = λ g l. omega (arith, none_holds g l);
     suits = λ p l. inl (none p l);
     waiting = λ p k l. none p l;
     all_given = λ g l e. differ e (has_none g);

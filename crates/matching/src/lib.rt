@@ -4,6 +4,7 @@
 // knows of no file and no verdict; specs/Internal/Matching.antt says what it gives.
 #![tactic(auto)]
 
+mod holders;
 mod search;
 mod stock;
 

@@ -5,6 +5,7 @@
 // specs/Internal/Steps.antt says what each call leaves. Both give the glass whose spare sheet was taken at the end of the chain.
 ghost use Rattle.matching.specs.Internal.Steps.{Servable, Serves, Freeable, Frees};
 
+use crate::holders::next_holder;
 use glass_set::{both, find_first, minus, with};
 
 // There is no chain of moves: all the glasses that were seen.
@@ -47,21 +48,21 @@ impl Search<'_> {
         Err(Stuck { seen: marked })
     }
 
-    // Takes one of the panes that hold a glass over to another glass, which is not in `seen`. The panes are gone through by number, since
-    // each search may change what they hold.
+    // Takes one of the panes that hold a glass over to another glass, which is not in `seen`. The next is looked for after each search,
+    // since it may change what the panes hold.
     #[cycle(free_serve)]
     pub fn free(&self, held: &mut [Option<usize>], glass: usize, seen: u64) -> Result<usize, Stuck>
         requires { Freeable self.now.rows.now held.old glass seen }
         ensures { Frees self.now.rows.now held.old held.new glass self.now.spare seen result }
     {
         let mut grown = seen;
-        for pane in 0..self.rows.len() {
-            if held[pane] == Some(glass) {
-                match self.serve(held, pane, grown) {
-                    Ok(last) => return Ok(last),
-                    Err(stuck) => grown = stuck.seen,
-                }
+        let mut from = 0;
+        while let Some(pane) = next_holder(held, glass, from) {
+            match self.serve(held, pane, grown) {
+                Ok(last) => return Ok(last),
+                Err(stuck) => grown = stuck.seen,
             }
+            from = pane + 1;
         }
         Err(Stuck { seen: grown })
     }

@@ -6,7 +6,10 @@ use mathlib.Core.Path.{◌≡◌, refl, sym, ◌∙◌}
 use mathlib.Core.List.{List, [], ◌∷◌}
 use native.Mathlib.Omega.{arith}
 use lib.ListN.{length, get_or, get_or-eq_default}
-use Rattle.std.specs.Prelude.{Option, Some, None}
+use lib.Dec.{ltb}
+use mathlib.Core.Bool.{Bool, true, false}
+use borrow.Author.Tests.{ltb-false}
+use Rattle.std.specs.Prelude.{Option, Some, None, if◌then◌else◌}
 use Rattle.matching.specs.Internal.Rows.{number_held, way_of}
 use Rattle.row_placing.specs.Internal.Entries.{entries_at, entry_held, entries_held}
 
@@ -16,10 +19,15 @@ entry_at xs [] p l = absurd (omega arith)
 entry_at xs (i ∷ is) zero l = refl
 entry_at xs (i ∷ is) (suc p) l = entry_at xs is p (omega arith)
 
--- A list of at most 64 entries has none at the number that stands for no place.
+-- A list of at most 64 entries has none at a number that stands for no place, nor at a place from 64 on.
 entry_number : (xs : List ℕ) (place : Option ℕ) → length xs ≤ 64 → entry_held xs place ≡ get_or xs (number_held place) 0
 entry_number xs None few = sym (get_or-eq_default xs 0 few)
-entry_number xs (Some place) few = refl
+entry_number xs (Some place) few = go (ltb place 64) refl
+  where
+    go : (x : Bool) → ltb place 64 ≡ x → get_or xs place 0 ≡ get_or xs (if x then place else 65) 0
+    go true is = refl
+    go false is =
+        get_or-eq_default xs 0 (omega (arith, ltb-false place 64 is, few)) ∙ sym (get_or-eq_default xs 0 (omega (arith, few)))
 
 pub held_at :
     (xs : List ℕ) (held : List (Option ℕ)) (p : ℕ) → length xs ≤ 64 → p < length held →

@@ -1,5 +1,5 @@
 -- `match_panes` meets its contract: the laws of Standing.antt and Turns.antt at the start, at each pane's turn and at the end.
-use Rattle.std.proofs.Common.{replicate, None, length, ◌≡◌, rules}
+use Rattle.std.proofs.Common.{length, ◌≡◌, refl, rules}
 use Rattle.matching.proofs.Standing.{standing_first, standing_last}
 use Rattle.matching.proofs.Turns.{servable, standing_moved, standing_stuck}
 use Rattle.matching.proofs.match_panes.Goals as goal
@@ -7,8 +7,9 @@ use Rattle.matching.proofs.match_panes.Goals.{in-Ok, in-Err}
 
 pub loop-pane-init : goal.loop-pane-init
 loop-pane-init c =
-    let emptied : c.fill.new.self ≡ replicate (length c.args.held.now) None = c.fill.ensures.after (λ y e. search rules) in
-    rw (c.new-stock.ensures, emptied, c.requires) (standing_first c.args.rows.now c.args.sheets (search rules))
+    let emptied = c.fill.ensures.after (λ y e. search rules) in
+    let all : length c.args.sheets ≡ 64 = search rules in
+    rw (c.new-stock.ensures, emptied, c.requires) (standing_first c.args.rows.now _ refl c.args.sheets all)
 
 pub serve-requires : goal.serve-requires
 serve-requires c = servable _ _ _ _ _ _ c.loop-pane.invariant c.loop-pane-test.true _

@@ -3,12 +3,11 @@ use Rattle.std.proofs.Common.{ℕ, length, ◌≡◌, ◌<◌, false, true, slic
 use Rattle.basics.proofs.Tests.{differ}
 use Rattle.glass_set.specs.Internal.Member.{has, unvisited}
 use Rattle.glass_set.proofs.Members.{unvisited_le}
-use Rattle.matching.specs.Internal.Rows.{way_of}
 use Rattle.matching.specs.Internal.Steps.{Unseen}
 use Rattle.matching.proofs.Ways.{way_held}
 use Rattle.matching.proofs.Growth.{unseen_back}
 use Rattle.matching.proofs.Serving.{serve_spare, serve_moved, serve_on}
-use Rattle.matching.proofs.Freeing.{free_moved}
+use Rattle.matching.proofs.Freeing.{free_moved, passed_on, passed_all}
 use Rattle.matching.proofs.Choices.{at_hand, none_at_hand, rest_at, rest_none, now_marked, fewer}
 use Rattle.matching.proofs.search.Search.+free_serve.Goals as goal
 use Rattle.matching.proofs.search.Search.+free_serve.Goals.{serve-After-with}
@@ -18,25 +17,45 @@ use Rattle.matching.proofs.search.Search.+free_serve.Goals.{serve-After-with}
 pub free-serve-requires : goal.free-serve-requires
 free-serve-requires t c =
     let l = c.loop-pane in
+    let h = c.in-Some.ensures in
     let keeps = l.invariant.passed.grown.keeps in (
       omega (arith, unvisited_le c.args.seen l.grown keeps, c.decreases),
       record {
         same_length = rw l.invariant.unchanged c.requires.same_length;
-        of_rows = omega arith;
+        of_rows = omega (arith, h.within, l.auto.held, c.requires.same_length);
         settled = λ u.
             differ
             (keeps c.args.glass c.requires.below c.requires.marked)
-            (ap (has l.grown) (sym (way_held _ _ c.if-eq.ensures)) ∙ u.out);
+            (ap (has l.grown) (sym (way_held _ _ c.requires.below h.holds)) ∙ u.out);
       },
     )
 
 pub free-returns-in-Ok : goal.free-returns-in-Ok
 free-returns-in-Ok t c =
     let l = c.loop-pane in
-    let holds : way_of l.held l.pane ≡ c.args.glass = way_held _ _ c.if-eq.ensures in
+    let holds = way_held _ _ c.requires.below c.in-Some.ensures.holds in
     free_moved _ _ _ _ _ _ l.invariant.passed.grown.keeps _ _ _
     (rw l.invariant.unchanged at holds)
     (rw l.invariant.unchanged at c.in-Ok.ensures)
+
+pub free-returns : goal.free-returns
+free-returns t c =
+    let inv = c.loop-pane.invariant in
+    let none = rw inv.unchanged at c.in_default.ensures in record {
+      unchanged = inv.unchanged;
+      grown = inv.passed.grown;
+      rows_seen = passed_all _ _ _ _ _ _ _ inv.passed c.requires.below _ none c.requires.same_length;
+    }
+
+pub free-loop-pane-preserved : goal.free-loop-pane-preserved
+free-loop-pane-preserved t c =
+    let inv = c.loop-pane.invariant in
+    let h = rw inv.unchanged at c.in-Some.ensures in
+    let n = rw inv.unchanged at c.in-Err.ensures in record {
+      unchanged = n.unchanged;
+      passed = passed_on _ _ _ _ _ _ _ inv.passed c.requires.below _ h _ _ n;
+      within = omega (arith, h.within);
+    }
 
 -- ---- serve
 

@@ -1,7 +1,7 @@
 -- The measure is twice the number of unvisited glasses, and one more for `free`: `serve` marks a glass before it calls `free`, and
 -- `free` calls `serve` with no fewer marked. What the loops keep: no pane has moved, and the glasses that were marked on the way
 -- are exhausted; in `free` also, of the panes passed, those that hold the glass can have none but marked ones.
-use Rattle.std.proofs.Common.{◌≡◌, ◌+◌}
+use Rattle.std.proofs.Common.{◌≡◌, ◌≤◌, ◌+◌, ◌-◌, length}
 use Rattle.glass_set.specs.Internal.Member.{unvisited}
 use Rattle.matching.specs.Internal.Steps.{Grown}
 use Rattle.matching.proofs.Freeing.{Passed}
@@ -16,8 +16,12 @@ decreases-serve l = unvisited l.seen + unvisited l.seen
 abbrev pub invariant-free-loop-pane : goal.invariant-free-loop-pane
 invariant-free-loop-pane l = record {
   unchanged : l.held ≡ l.initial.held;
-  passed : Passed l.self.rows.now l.initial.held l.glass l.self.spare l.seen l.grown l.pane;
+  passed : Passed l.self.rows.now l.initial.held l.glass l.self.spare l.seen l.grown l.from;
+  within : l.from ≤ length l.initial.held;
 }
+
+abbrev pub decreases-free-loop-pane : goal.decreases-free-loop-pane
+decreases-free-loop-pane l = length l.initial.held - l.from
 
 abbrev pub invariant-serve-loop-glass : goal.invariant-serve-loop-glass
 invariant-serve-loop-glass l = record {
