@@ -10,4 +10,5 @@ pub mod Serving
 pub mod Freeing
 -- The placing of pane after pane.
 pub mod Standing
+pub mod Early
 pub mod Turns

