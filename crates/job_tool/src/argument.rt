@@ -3,7 +3,7 @@ ghost use Rattle.std.specs.Prelude.{◌≡◌, ◌≤◌, ℕ, List, IfErr, IfOk
 ghost use Rattle.std.specs.Fn.{FnOnceReturnsAt};
 ghost use Rattle.job_tool.specs.Internal.Leaves.{Leaves, LeavesRoom};
 
-use crate::input::{JobBytes, bytes_of, front, read_full};
+use crate::input::{JobBytes, Room, bytes_of, front, read_full};
 use crate::words::{StandardError, say_failure};
 use std::env::{Env, FillError};
 use std::io::{Error, ErrorKind};
@@ -52,7 +52,7 @@ pub fn with_file<R: Env + Files + Print + StandardError, T, F: FnOnce(&[u8]) -> 
     ensures { IfOk result (λ given. IfSome given (λ t.
         (file : List ℕ) × (length file ≤ 65536) × FnOnceReturnsAt F.FnOnce step file (Ok t))) }
 {
-    let mut room = [0u8; 65536];
+    let mut room: Room = [0; 65536];
     match read_into_room(rt, i, &mut room) {
         Ok(length) => Ok(Some(step(front(&room, length))?)),
         Err(unread) => {
@@ -63,7 +63,7 @@ pub fn with_file<R: Env + Files + Print + StandardError, T, F: FnOnce(&[u8]) -> 
 }
 
 // Reads the file that argument `i` names. Why a file was not opened or not read is said on standard error. The bytes are lent beside the
-// `Result`: what stands in them where no file was opened is promised, which a `Result` with the bytes in it could not say.
+// `Result`: what stands in them where there is no file is promised, which a `Result` with the bytes in it could not say.
 pub fn read_argument<R: Env + Files + StandardError>(
     rt: &R,
     i: usize,
@@ -71,7 +71,7 @@ pub fn read_argument<R: Env + Files + StandardError>(
 ) -> Result<(), Unread>
     ensures { Leaves result file.old.items file.new.items }
 {
-    let mut room = [0u8; 65536];
+    let mut room: Room = [0; 65536];
     let length = read_into_room(rt, i, &mut room)?;
     *file = bytes_of(front(&room, length));
     Ok(())
@@ -115,7 +115,7 @@ fn argument<'a>(rt: &impl Env, i: usize, text: &'a mut [u8; 4096]) -> &'a [u8]
 fn read_into_room<R: Env + Files + StandardError>(
     rt: &R,
     i: usize,
-    room: &mut [u8; 65536],
+    room: &mut Room,
 ) -> Result<usize, Unread>
     ensures { LeavesRoom result room.old room.new }
 {
@@ -127,7 +127,7 @@ fn read_into_room<R: Env + Files + StandardError>(
 fn read_named<R: Files + StandardError>(
     rt: &R,
     name: &[u8],
-    room: &mut [u8; 65536],
+    room: &mut Room,
 ) -> Result<usize, Unread>
     ensures { LeavesRoom result room.old room.new }
 {

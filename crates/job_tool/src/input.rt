@@ -1,13 +1,16 @@
 // Reading a file into memory. Which bytes a read of the system gives, no contract can say.
-ghost use Rattle.std.specs.Prelude.{◌≡◌, ◌≤◌, ℕ, List, length};
+ghost use Rattle.std.specs.Prelude.{◌≡◌, ◌≤◌, ℕ, List, length, take};
 ghost use Rattle.std.specs.Fn.{FnOnceReturnsAt};
 
 use arrayvec::ArrayVec;
 use std::io;
 use std::io::Read;
 
-// The bytes of a file, in fixed memory, so that no file is refused for want of memory. There is room for a byte more than a job file
+// What a file is read into: fixed memory, so that no file is refused for want of memory. There is room for a byte more than a job file
 // may have: a file that fills it is too long, whatever follows.
+pub(crate) type Room = [u8; 65536];
+
+// The bytes of a file in a list of their own, for who keeps them. The programs have no need to: they go by `with_input` and `with_file`.
 pub type JobBytes = ArrayVec<u8, 65536>;
 
 // What `step` gives of what standard input gives, of which there is at most as much as there is room for. Where a read fails, that is what
@@ -16,24 +19,25 @@ pub fn with_input<T, F: FnOnce(&[u8]) -> T>(rt: &impl Input, step: F) -> T
     requires { F.IsAlwaysCallable step }
     ensures { (file : List ℕ) × (length file ≤ 65536) × FnOnceReturnsAt F.FnOnce step file result }
 {
-    let mut room = [0u8; 65536];
+    let mut room: Room = [0; 65536];
     let (length, _) = read_full(&mut rt.reader(), &mut room);
     step(front(&room, length))
 }
 
-// What standard input gives, to keep. Where a read fails, that is what was read before.
+// What standard input gives, as a list. Where a read fails, that is what was read before.
 pub fn read_input(rt: &impl Input) -> JobBytes
     ensures { length result.items ≤ 65536 }
 {
-    let mut room = [0u8; 65536];
+    let mut room: Room = [0; 65536];
     let (length, _) = read_full(&mut rt.reader(), &mut room);
     bytes_of(front(&room, length))
 }
 
 // The bytes that were read to the front of a room.
-pub(crate) fn front(room: &[u8; 65536], count: usize) -> &[u8]
+pub(crate) fn front(room: &Room, count: usize) -> &[u8]
     requires { count ≤ 65536 }
-    ensures { length result.now ≤ 65536 }
+    ensures bytes { result.now ≡ take count room.now }
+    ensures bound { length result.now ≤ 65536 }
 {
     &room[..count]
 }

@@ -1,11 +1,12 @@
 // Standard output and standard error with no buffer before them: each piece of a line, a number or the words about it, is written by
-// itself. So an output that is not waited for, as a pipe that is nearly full, takes as much of a line as it has room for.
+// itself. So an output that is not waited for, as a pipe that is nearly full, takes as much of a line as it has room for. The newline of
+// `println!` is a piece too; one that stands in the words belongs to them.
 use crate::words::StandardError;
 use std::fmt::{Display, Write};
 use std::io::Error;
 use std::{fmt, io};
 
-// What prints on the standard output, or what else `R` prints on, piece by piece.
+// Where `R` prints, piece by piece: on its standard output by `print!`, on its standard error by `eprint!`.
 #[derive(Clone, Copy)]
 pub struct Pieces<'a, R> {
     pub rt: &'a R,
@@ -30,7 +31,11 @@ impl<R: Print> fmt::Write for Output<'_, R> {
     }
 }
 
-impl<R> Output<'_, R> {
+impl<'a, R> Output<'a, R> {
+    fn new(rt: &'a R) -> Self {
+        Output { rt, error: None }
+    }
+
     // What came of all the pieces.
     fn end(self) -> io::Result<()> {
         match self.error {
@@ -42,19 +47,13 @@ impl<R> Output<'_, R> {
 
 impl<R: Print> Print for Pieces<'_, R> {
     fn print<D: Display + Drop>(&self, value: D) -> io::Result<()> {
-        let mut output = Output {
-            rt: self.rt,
-            error: None,
-        };
+        let mut output = Output::new(self.rt);
         let _ = output.write(value);
         output.end()
     }
 
     fn println<D: Display + Drop>(&self, value: D) -> io::Result<()> {
-        let mut output = Output {
-            rt: self.rt,
-            error: None,
-        };
+        let mut output = Output::new(self.rt);
         let _ = output.writeln(value);
         output.end()
     }

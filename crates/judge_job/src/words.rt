@@ -29,6 +29,7 @@ fn explain_clause(rt: &impl StandardError, clause: u32) {
         1 => eprintln!(rt;
             "clause 1, kind: the pane's highest part is 3000 mm or more above the floor, where toughened glass must be laminated; take a laminated glass"
         ),
+        // the newline belongs to the last piece
         2 => eprint!(Pieces { rt };
             "clause 2, size: upright or turned, each side of the sheet must exceed the pane's sight size by two edge covers or more ({}, {}, {}, {}), and this sheet does not; take a larger sheet, or a thinner glass\n",
             Excess(6),

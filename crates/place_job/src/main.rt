@@ -35,7 +35,7 @@ fn main(rt: HostRuntime) -> io::Result<()> {
             }
         }
     }
-    println!(Pieces { rt: &rt }; "{jobs} jobs, {wrong} wrong")
+    print!(Pieces { rt: &rt }; "{jobs} jobs, {wrong} wrong\n")
 }
 
 // Tries the file that argument `i` names and writes its line. None where the file was not opened or not read.
@@ -52,6 +52,7 @@ fn try_argument<R: Env + Files + Print + StandardError>(
             Ok(Outcome::Short(left_over)) => println!(Pieces { rt }; "short by {left_over}")?,
             Ok(Outcome::Refused(refusal)) => job_tool::write_refusal(rt, refusal)?,
             Err(rule) => {
+                // two pieces: the word, and the line's rest
                 print!(rt; "wrong: ")?;
                 println!(rt; "{rule}")?;
             }
