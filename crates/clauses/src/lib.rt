@@ -26,7 +26,7 @@ pub fn verdict(file: &[u8], pane: u32, glass: u32) -> Result<Verdict, Refusal>
 {
     let job = read_job(file)?;
     judge_found(
-        find_by_id(&job.panes, pane),
-        find_by_id(&job.glasses, glass),
+        find_by_id(job.panes(), pane),
+        find_by_id(job.glasses(), glass),
     )
 }

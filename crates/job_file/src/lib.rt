@@ -31,7 +31,7 @@ pub fn check(file: &[u8]) -> Result<FileCounts, Refusal>
 {
     let job = read_job(file)?;
     Ok(FileCounts {
-        glasses: job.glasses.len(),
-        panes: job.panes.len(),
+        glasses: job.glass_count,
+        panes: job.pane_count,
     })
 }

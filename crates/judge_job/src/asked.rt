@@ -58,8 +58,8 @@ impl<R: Env + Print + StandardError> Asked<'_, R> {
     fn answer_all(&self) -> io::Result<()> {
         match job_file::read_job(self.file) {
             Ok(job) => {
-                for pane in &job.panes {
-                    for glass in &job.glasses {
+                for pane in job.panes() {
+                    for glass in job.glasses() {
                         let answer = clauses::verdict(self.file, pane.id, glass.id);
                         self.write_answer(pane.id, glass.id, answer)?;
                     }

@@ -36,8 +36,9 @@ impl<'a> Job<'a> {
             Ok(job) => Job {
                 file,
                 due: Ok(()),
+                // at most 64, so they fit
+                glasses: ArrayVec::try_from(job.glasses()).unwrap(),
                 panes: rows_of(file, &job),
-                glasses: job.glasses,
             },
         }
     }
@@ -46,8 +47,8 @@ impl<'a> Job<'a> {
 // The rows of a job's panes. They are pushed one by one: `collect` takes an allocator, and answers a `Result` whose error can't occur.
 fn rows_of(file: &[u8], job: &job_file::Job) -> ArrayVec<PaneRow, 256> {
     let mut rows = ArrayVec::new();
-    for pane in job.panes.iter() {
-        rows.push(row_of(file, pane.id, &job.glasses));
+    for pane in job.panes() {
+        rows.push(row_of(file, pane.id, job.glasses()));
     }
     rows
 }

@@ -32,7 +32,7 @@ pub fn place(file: &[u8], answers: &mut [u32], group: &mut [u32]) -> Result<Plac
 {
     let job = read_job(file)?;
     let shorter = answers.len().min(group.len());
-    if shorter < job.panes.len() {
+    if shorter < job.panes().len() {
         return Err(Cause::ListTooShort.at(0));
     }
     Ok(place_panes(&job, answers, group))
@@ -46,13 +46,13 @@ pub fn place_panes(job: &Job, answers: &mut [u32], group: &mut [u32]) -> PlaceCo
         (lent answers.old answers.new) (lent group.old group.new) }
 {
     let rows = rows_of(job);
-    let glasses = GlassLists::of(&job.glasses);
+    let glasses = GlassLists::of(job.glasses());
     let mut held = [None; 256];
     place_rows(
         &rows,
         &glasses.stocks,
         &glasses.ids,
-        &pane_ids(&job.panes),
+        &pane_ids(job.panes()),
         &mut held[..rows.len()],
         answers,
         group,

@@ -18,8 +18,8 @@ pub fn rows_of(job: &Job) -> ArrayVec<u64, 256>
     ensures { JobRows (schedule_of (glasses_of job.now) (stocks_of (glasses_of job.now)) (panes_of job.now)) result.items }
 {
     let mut rows = ArrayVec::new();
-    for pane in job.panes.iter() {
-        rows.push(row_of(*pane, &job.glasses));
+    for pane in job.panes() {
+        rows.push(row_of(*pane, job.glasses()));
     }
     rows
 }

@@ -7,6 +7,7 @@ mod line;
 mod text;
 
 ghost use Rattle.job_file.specs.File.{outcome_of};
+ghost use Rattle.job_file.specs.Internal.Job.{glasses_of, panes_of};
 ghost use Rattle.report.specs.Reported.{Reported, TextOf, TextOfPlacing};
 
 use job_file::{Job, read_job};
@@ -37,13 +38,13 @@ fn text_of(file: &[u8]) -> Text
 
 // The text of a job's placing. The placing fills lent lists, as C lends them to `place`, and counts what it writes.
 fn text_of_job(job: &Job) -> Text
-    ensures { TextOfPlacing job.now.glasses.items job.now.panes.items result.bytes }
+    ensures { TextOfPlacing (glasses_of job.now) (panes_of job.now) result.bytes }
 {
     let mut answers = [0u32; 256];
     let mut group = [0u32; 256];
     let counts = place_panes(job, &mut answers, &mut group);
     placing_text(
-        &job.panes,
+        job.panes(),
         &answers[..counts.wanted],
         counts.placed,
         &group[..counts.group],

@@ -1,5 +1,5 @@
 -- A job as a value, and what reading a file gives.
-use Rattle.std.specs.Prelude.{List, Result, Ok, Err}
+use Rattle.std.specs.Prelude.{List, Result, Ok, Err, take}
 use Rattle.causes.specs.declared.Refusal.{Refusal}
 use Rattle.job_glass.specs.declared.Glass.{Glass}
 use Rattle.job_pane.specs.declared.Pane.{Pane}
@@ -8,10 +8,10 @@ use Rattle.job_file.specs.File.{Outcome, accepted, refused}
 
 -- The glasses and the panes of a job.
 abbrev pub glasses_of : Job → List Glass
-glasses_of job = job.glasses.items
+glasses_of job = take job.glass_count job.glasses
 
 abbrev pub panes_of : Job → List Pane
-panes_of job = job.panes.items
+panes_of job = take job.pane_count job.panes
 
 -- What reading a file says of it: its glasses and panes, or its refusal.
 abbrev pub job_says : Result Job Refusal → Outcome

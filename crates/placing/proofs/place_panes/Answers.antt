@@ -6,9 +6,8 @@ use Rattle.placing.proofs.place_panes.Goals as goal
 
 pub returns : goal.returns
 returns c =
-    let glasses = c.deref.ensures.0 in
-    let panes = c.deref-3.ensures.0 in
+    let glasses = c.glasses.ensures.0 in
     (c.place_rows.ensures.of_any _
-    (stated_job c.args.job.now.rules _ _ _ _ (rw c.deref-2.ensures.0 c.rows_of-rows.ensures)
+    (stated_job c.args.job.now.rules _ _ _ _ (rw c.deref.ensures.0 c.rows_of-rows.ensures)
     (rw glasses at c.of-glasses.ensures.stocks) (rw glasses at c.of-glasses.ensures.ids)
-    (c.deref-4.ensures.0 ∙ c.pane_ids.ensures ∙ ap pane_ids_of panes))).glazed
+    (c.deref-2.ensures.0 ∙ c.pane_ids.ensures ∙ ap pane_ids_of c.panes.ensures.0))).glazed
