@@ -1,33 +1,27 @@
-// The whole file: specs/File.antt.
+// The job of a file: specs/File.antt.
 ghost use Rattle.std.specs.Prelude.{◌≡◌, ◌≤◌, length};
 ghost use Rattle.basics.specs.Internal.Arrays.{written};
 ghost use Rattle.job_file.specs.File.{outcome_of};
 ghost use Rattle.job_file.specs.Internal.Job.{job_says};
 
 use crate::job::{Job, NO_GLASS, NO_PANE};
-use crate::parts::find_parts;
-use arrayvec::ArrayVec;
+use crate::lists::{Glasses, Panes, read_lists};
 use causes::Refusal;
-use job_glass::Glass;
-use job_pane::Pane;
-use job_part::read_part;
 
 // The job of a file, or the first cause against it. Its arrays are made before the parts are read, and it is filled in place: a job that
 // was made of its lists at the end was copied once more, and a small file took half as long again.
 pub fn read_job(file: &[u8]) -> Result<Job, Refusal>
     ensures { job_says result ≡ outcome_of file.now }
 {
-    let parts = find_parts(file)?;
     let mut job = Job {
         glasses: [NO_GLASS; 64],
         glass_count: 0,
         panes: [NO_PANE; 256],
         pane_count: 0,
     };
-    let mut glasses = ArrayVec::<Glass, 64>::new();
-    let mut panes = ArrayVec::<Pane, 256>::new();
-    read_part(&file[parts.glass..parts.pane], parts.pane, &mut glasses)?;
-    read_part(&file[parts.pane..parts.end], parts.end, &mut panes)?;
+    let mut glasses = Glasses::new();
+    let mut panes = Panes::new();
+    read_lists(file, &mut glasses, &mut panes)?;
     job.glass_count = copy_to_front(&glasses, &mut job.glasses);
     job.pane_count = copy_to_front(&panes, &mut job.panes);
     Ok(job)

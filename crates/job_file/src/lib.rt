@@ -6,6 +6,7 @@
 
 mod file;
 mod job;
+mod lists;
 mod parts;
 mod trailer;
 
@@ -17,6 +18,7 @@ ghost use Rattle.job_file.specs.CheckAnswer.{check_answer};
 use causes::Refusal;
 pub use file::read_job;
 pub use job::Job;
+use lists::{Glasses, Panes, read_lists};
 
 // How many glasses and how many panes a file has.
 #[derive(Clone, Copy, Debug, PartialEq, Eq)]
@@ -29,9 +31,11 @@ pub struct FileCounts {
 pub fn check(file: &[u8]) -> Result<FileCounts, Refusal>
     ensures { answer_of result ≡ check_answer (outcome_of file.now) }
 {
-    let job = read_job(file)?;
+    let mut glasses = Glasses::new();
+    let mut panes = Panes::new();
+    read_lists(file, &mut glasses, &mut panes)?;
     Ok(FileCounts {
-        glasses: job.glass_count,
-        panes: job.pane_count,
+        glasses: glasses.len(),
+        panes: panes.len(),
     })
 }

@@ -6,6 +6,11 @@ use Rattle.job_pane.specs.declared.Pane.{Pane}
 use Rattle.job_file.specs.declared.job.Job.{Job}
 use Rattle.job_file.specs.File.{Outcome, accepted, refused}
 
+-- What reading a file into two lists says of it: these lists, or its refusal.
+abbrev pub lists_say : Result (Unit {0}) Refusal → List Glass → List Pane → Outcome
+lists_say (Ok done) glasses panes = accepted glasses panes
+lists_say (Err r) glasses panes = refused r.cause r.offset
+
 -- The glasses and the panes of a job.
 abbrev pub glasses_of : Job → List Glass
 glasses_of job = take job.glass_count job.glasses
