@@ -3,15 +3,14 @@
 --     way_there       another pane has what it had
 --     way_held        a pane whose entry is a glass holds it,
 --     held_of_way     and the other way round
---     none_held       a pane that holds no glass has no number,
---     entry_is        and each entry of a greatest matching is none or the number of a glass
+--     entries_are     each entry of a greatest matching is none or the number of a glass
 use Rattle.std.proofs.Common.{ℕ, ◌<◌, ◌≤◌, List, Option, Some, None, Bool, true, false, length, get_or, ltb, ◌≡◌, ◌⊎◌, refl, sym, ap, ◌∙◌, arith}
 use mathlib.Core.Logic.{inl, inr}
 use Rattle.std.proofs.Math.ListN.{set}
 use Rattle.std.proofs.lemmas.List.{get_or-set_same, get_or-set_other}
 use borrow.Author.Tests.{lt-ltb, ltb-true}
 use Rattle.matching.specs.Internal.Matching.{Greatest}
-use Rattle.matching.specs.Internal.Rows.{task_of, number_held, way_of, GlassOrNone}
+use Rattle.matching.specs.Internal.Rows.{task_of, number_held, way_of, GlassOrNone, GlassesOrNone}
 
 number_of_glass : (glass : ℕ) → glass < 64 → number_held (Some glass) ≡ glass
 number_of_glass glass below = rw (lt-ltb glass 64 below) refl
@@ -47,18 +46,10 @@ held_of_way (Some held) glass below same = go (number_cases held glass same)
     go (inl is) = ap Some is.1
     go (inr is) = absurd (omega (arith, is, below))
 
-pub none_held : (entry : Option ℕ) → number_held entry ≡ 64 → entry ≡ None
-none_held None same = refl
-none_held (Some held) same = go (number_cases held 64 same)
-  where
-    go : ((held < 64) × (held ≡ 64)) ⊎ (◌≡◌ {A = ℕ} 64 65) → Some held ≡ None
-    go (inl is) = absurd (omega (arith, is.0, is.1))
-    go (inr is) = absurd (omega (arith, is))
-
-pub entry_is :
-    (rows sheets : List ℕ) (held : List (Option ℕ)) (tight : ℕ → Bool) → Greatest (task_of rows sheets) (way_of held) tight →
-    (p : ℕ) → p < length rows → GlassOrNone (get_or held p None)
-entry_is rows sheets held tight best p l = go (get_or held p None) (best.or_none p l)
+pub entries_are :
+    (rows sheets : List ℕ) (held : List (Option ℕ)) (tight : ℕ → Bool) →
+    Greatest (task_of rows sheets) (way_of held) tight → GlassesOrNone rows held
+entries_are rows sheets held tight best p l = go (get_or held p None) (best.or_none p l)
   where
     go : (entry : Option ℕ) → number_held entry ≤ 64 → GlassOrNone entry
     go None least = tt

@@ -11,7 +11,7 @@ mod stock;
 ghost use Rattle.std.specs.Prelude.{◌≡◌, length};
 ghost use Rattle.glass_set.specs.Internal.Member.{has};
 ghost use Rattle.matching.specs.Internal.Matching.{Greatest};
-ghost use Rattle.matching.specs.Internal.Rows.{task_of, way_of};
+ghost use Rattle.matching.specs.Internal.Rows.{task_of, way_of, GlassesOrNone};
 
 use search::Search;
 use stock::Stock;
@@ -27,7 +27,8 @@ use stock::Stock;
 // are gone through by number, which is what a search is given.
 pub fn match_panes(rows: &[u64], sheets: [u32; 64], held: &mut [Option<usize>]) -> u64
     requires { length held.old ≡ length rows.now }
-    ensures { Greatest (task_of rows.now sheets) (way_of held.new) (has result) }
+    ensures greatest { Greatest (task_of rows.now sheets) (way_of held.new) (has result) }
+    ensures entries { GlassesOrNone rows.now held.new }
 {
     held.fill(None);
     let mut stock = Stock::new(sheets);

@@ -18,6 +18,7 @@ use Rattle.rising_ids.specs.Internal.Listing.{rising, Listed}
 use Rattle.rising_ids.proofs.Rising.{rising_rises}
 use Rattle.glass_set.specs.Internal.Member.{has}
 use Rattle.matching.specs.Internal.Matching.{Greatest}
+use Rattle.matching.proofs.Ways.{entries_are}
 use Rattle.matching.specs.Internal.Rows.{task_of, way_of}
 use Rattle.row_placing.specs.Schedule.{Schedule}
 use Rattle.row_placing.specs.Internal.Entries.{entry_held, entries_held}
@@ -199,6 +200,7 @@ module _
       wanted_is = refl;
       tight = tight;
       held_greatest = best;
+      held_are = entries_are rows sheets64 held (has tight) best;
       answers_are = answers_are;
       placed_is = answered.placed_is;
       few_placed = few_placed;

@@ -4,6 +4,7 @@ use Rattle.std.proofs.Math.Seq.{length_front}
 use Rattle.matching.proofs.Early.{servable_early, served_early, stuck_early}
 use Rattle.matching.proofs.Standing.{standing_first, standing_last}
 use Rattle.matching.proofs.Turns.{servable, standing_moved, standing_stuck}
+use Rattle.matching.proofs.Ways.{entries_are}
 use Rattle.matching.proofs.match_panes.Goals as goal
 use Rattle.matching.proofs.match_panes.Goals.{in-Ok, in-Err}
 
@@ -34,5 +35,8 @@ loop-pane-preserved c =
           (stuck_early _ _ _ turn s.same_length _ long _ _ _ (λ p k l. s.waiting p (omega arith) l) w.in-Err.ensures))
     ]
 
-pub returns : goal.returns
-returns c = standing_last _ _ _ _ _ _ c.loop-pane-test.false c.loop-pane.invariant
+pub returns-clause-greatest : goal.returns-clause-greatest
+returns-clause-greatest c = standing_last _ _ _ _ _ _ c.loop-pane-test.false c.loop-pane.invariant
+
+pub returns-clause-entries : goal.returns-clause-entries
+returns-clause-entries c = entries_are _ _ _ _ (standing_last _ _ _ _ _ _ c.loop-pane-test.false c.loop-pane.invariant)

@@ -22,7 +22,10 @@ number_held (Some glass) = if ltb glass 64 then glass else 65
 abbrev pub way_of : List (Option ℕ) → ℕ → ℕ
 way_of held p = number_held (get_or held p None)
 
--- What each entry of a greatest matching is: none, or the number of a glass. `entry_is` of proofs/Ways reads it off.
+-- What each entry of a greatest matching is: none, or the number of a glass.
 abbrev pub GlassOrNone : Option ℕ → Type 0
 GlassOrNone None = Unit {0}
 GlassOrNone (Some glass) = glass < 64
+
+abbrev pub GlassesOrNone : (rows : List ℕ) → List (Option ℕ) → Type 0
+GlassesOrNone rows held = (p : ℕ) → p < length rows → GlassOrNone (get_or held p None)

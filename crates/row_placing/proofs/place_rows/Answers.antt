@@ -12,7 +12,7 @@ returns-then-placed-wanted c =
     let m = c.match_panes-tight in
     let w = c.write_answers-placed in
     rows_full a.rows.now a.sheets.now a.glass_ids.now a.pane_ids.now m.new.held m.result (m.auto.held ∙ c.requires.1)
-    (search rules) m.ensures (lent a.answers.now w.new.answers) (lent a.group.now a.group.now) w.result w.ensures refl
+    (search rules) m.ensures.greatest (lent a.answers.now w.new.answers) (lent a.group.now a.group.now) w.result w.ensures refl
     (omega arith)
 
 pub returns-else-placed-wanted : goal.returns-else-placed-wanted
@@ -22,5 +22,5 @@ returns-else-placed-wanted c =
     let w = c.write_answers-placed in
     let g = c.write_group-group_length in
     rows_short a.rows.now a.sheets.now a.glass_ids.now a.pane_ids.now m.new.held m.result (m.auto.held ∙ c.requires.1)
-    (search rules) m.ensures (lent a.answers.now w.new.answers) (lent a.group.now g.new.group) w.result w.ensures g.result
+    (search rules) m.ensures.greatest (lent a.answers.now w.new.answers) (lent a.group.now g.new.group) w.result w.ensures g.result
     c.if-placed-wanted.false g.ensures

@@ -10,7 +10,7 @@ pub record PassingNumber (s : Schedule) (pane g : ℕ) : Type 0 where
   pub passing : s.passes pane g ≡ true
 
 -- The same answers as places of glasses, one for each pane. The number that `way_of` gives is 64 for a pane that has none: its entry is
--- `None`, and that of any other pane is `Some` of its glass's place (`none_held` and `held_of_way` of matching/proofs/Ways).
+-- `None`, and that of any other pane is `Some` of its glass's place, since no entry has a number that is no glass (`held_are` of `RowsGlazed`).
 pub record Holding (s : Schedule) (held : List (Option ℕ)) (ids : List ℕ) : Type 0 where
   pub one_each : length held ≡ length s.pane_ids
   pub each : (p : ℕ) → p < length s.pane_ids → (way_of held p ≡ 64) ⊎ PassingNumber s p (way_of held p)
