@@ -4,8 +4,8 @@
  * The calls allocate nothing, and read and write no memory but what they are lent. A pointer may be null where its length
  * is 0. Lent lists do not overlap one another or the file. The library is for x86-64.
  *
- * A thread with a stack of 128 KB can make every call. On threads with small stacks, bordavina_check returned on 32 KB,
- * bordavina_verdict on 44 KB, bordavina_place on 48 KB and bordavina_report on 60 KB, and on 4 KB less they did not.
+ * A thread with a stack of 128 KB can make every call. On threads with small stacks, bordavina_check returned on 16 KB,
+ * bordavina_verdict on 44 KB, bordavina_place on 60 KB and bordavina_report on 72 KB, and on 4 KB less they did not.
  *
  * A job file has a line for each glass, with the letter G, and for each pane, with the letter P or Q. The numbers of both pane
  * lines are the same but for the last two: wind pressures down and up, 0 to 1000 in units of 0.01 kPa, on a P line; a wind class,
