@@ -27,10 +27,5 @@ pub fn next_holder(held: &[Option<usize>], glass: usize, from: usize) -> Option<
 fn first_holder(entries: &[Option<usize>], glass: usize) -> Option<usize>
     ensures { NextHolder entries.now glass 0 result }
 {
-    for (at, entry) in entries.iter().enumerate() {
-        if *entry == Some(glass) {
-            return Some(at);
-        }
-    }
-    None
+    entries.iter().position(|entry| *entry == Some(glass))
 }
