@@ -1,7 +1,7 @@
 -- The entries of a list at some places, as a map over the places gives them.
 --     entry_at                each of them: they are as many as the places, by `length-map`
 --     held_at, held_same      the same at places that are held; of two lists that agree there
-use Prim.Native.Nat.{ℕ, zero, suc, ◌≤◌, ◌<◌}
+use Prim.Native.Nat.{ℕ, zero, suc, ◌+◌, ◌≤◌, ◌<◌}
 use mathlib.Core.Path.{◌≡◌, refl, sym, ◌∙◌}
 use mathlib.Core.List.{List, [], ◌∷◌}
 use native.Mathlib.Omega.{arith}
@@ -24,10 +24,11 @@ entry_number : (xs : List ℕ) (place : Option ℕ) → length xs ≤ 64 → ent
 entry_number xs None few = sym (get_or-eq_default xs 0 few)
 entry_number xs (Some place) few = go (ltb place 64) refl
   where
-    go : (x : Bool) → ltb place 64 ≡ x → get_or xs place 0 ≡ get_or xs (if x then place else 65) 0
+    go : (x : Bool) → ltb place 64 ≡ x → get_or xs place 0 ≡ get_or xs (if x then place else place + 1) 0
     go true is = refl
     go false is =
-        get_or-eq_default xs 0 (omega (arith, ltb-false place 64 is, few)) ∙ sym (get_or-eq_default xs 0 (omega (arith, few)))
+        let over = ltb-false place 64 is in
+        get_or-eq_default xs 0 (omega (arith, over, few)) ∙ sym (get_or-eq_default xs 0 (omega (arith, over, few)))
 
 pub held_at :
     (xs : List ℕ) (held : List (Option ℕ)) (p : ℕ) → length xs ≤ 64 → p < length held →

@@ -1,5 +1,5 @@
 -- Rows of bits and lists of sheets, as what is to be matched: document 01, "The placing".
-use Rattle.std.specs.Prelude.{ℕ, ◌<◌, List, Option, Some, None, ltb, length, get_or, if◌then◌else◌}
+use Rattle.std.specs.Prelude.{ℕ, ◌+◌, ◌<◌, List, Option, Some, None, ltb, length, get_or, if◌then◌else◌}
 use Rattle.glass_set.specs.Internal.Member.{has}
 use Rattle.matching.specs.Internal.Matching.{Task}
 
@@ -12,11 +12,12 @@ task_of rows sheets = record {
   sheets = λ g. get_or sheets g 0;
 }
 
--- The number of the glass that a pane holds, or 64, which is that of none. An entry with a number that no glass has gives 65, and `or_none`
--- of `Greatest` rules that out: where a greatest matching gives a pane no glass, its entry is `None`.
+-- The number of the glass that a pane holds, or 64, which is that of none. A number that no glass has gives the one above it, so entries that
+-- differ have numbers that differ; and `or_none` of `Greatest` rules it out: where a greatest matching gives a pane no glass, its entry is
+-- `None`.
 abbrev pub number_held : Option ℕ → ℕ
 number_held None = 64
-number_held (Some glass) = if ltb glass 64 then glass else 65
+number_held (Some glass) = if ltb glass 64 then glass else glass + 1
 
 -- The way that a list of held glasses states, one for each pane.
 abbrev pub way_of : List (Option ℕ) → ℕ → ℕ
